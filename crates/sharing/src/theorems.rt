@@ -5,12 +5,10 @@ ghost use Rattle.sharing.specs.Questions.{Rank-accepted, Compensation-accepted
 // The worked examples come out as their table says.
 pub fn examples_hold()
     ensures { λ _. ⌜ Table-holds ⌝ }
-{
-}
+{}
 
 // No share that the settlement of a month asks for is declined.
 pub fn settlement_shares_are_accepted()
     ensures rank { λ _. ⌜ Rank-accepted ⌝ }
     ensures compensation { λ _. ⌜ Compensation-accepted ⌝ }
-{
-}
+{}

@@ -1,0 +1,5 @@
+mod Names
+mod Numbers
+mod Reading
+mod Running
+mod Stretching

@@ -1,0 +1,4 @@
+pub mod Asking
+pub mod Naming
+pub mod Stretches
+pub mod Workings

@@ -10,7 +10,8 @@ use Rattle.std.proofs.shelf.Lists.{append-assoc, append-nil, drop-more, at-drop
 use Rattle.std.specs.declared.option.Option.the-variants.{None}
 use Rattle.std.specs.declared.result.Result.the-variants.{Ok}
 use Rattle.sharing.specs.Places.{sumOfFirst}
-use Rattle.sharing.specs.Questions.{declined, placed, Shared}
+use Rattle.sharing.specs.Declining.{placed}
+use Rattle.sharing.specs.Questions.{declined, Shared}
 use Rattle.sharing.specs.Rules.{equalRatio}
 use Rattle.sharing.proofs.ByPlace.{ratio-places}
 use Rattle.sharing.proofs.Claims.{sum-cons}

@@ -7,16 +7,16 @@ use lib.ListN.{length}
 use Rattle.std.specs.declared.option.Option.{Option}
 use Rattle.std.specs.declared.option.Option.the-variants.{Some, None}
 use Rattle.std.specs.declared.result.Result.the-variants.{Ok}
-use Rattle.sharing.specs.declared.refusal.Refusal.{Refusal}
 use Rattle.sharing.specs.Laws.{Fair}
-use Rattle.sharing.specs.Questions.{declined, answered, placed, Accepted, Asked, Shared}
+use Rattle.sharing.specs.Declining.{answered, placed}
+use Rattle.sharing.specs.Questions.{declined, Accepted, Asked, Shared}
 use Rattle.sharing.proofs.Asked.{asked}
 
-pub was-none : {X : Type 0} (why : Option Refusal) (x y : X) → Ok x ≡ answered why y → why ≡ None
+pub was-none : {X E : Type 0} (why : Option E) (x y : X) → Ok x ≡ answered why y → why ≡ None
 was-none None x y e = refl
 was-none (Some why) x y e = let z : _≡_ {A = ℕ} 0 1 = cc in absurd (omega arith)
 
-pub was-value : {X : Type 0} (why : Option Refusal) (x y : X) → Ok x ≡ answered why y → x ≡ y
+pub was-value : {X E : Type 0} (why : Option E) (x y : X) → Ok x ≡ answered why y → x ≡ y
 was-value None x y e = cc
 was-value (Some why) x y e = let z : _≡_ {A = ℕ} 0 1 = cc in absurd (omega arith)
 

@@ -1,3 +1,4 @@
+pub mod Declining
 pub mod Examples
 pub mod Laws
 pub mod Places

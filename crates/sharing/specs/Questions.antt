@@ -1,7 +1,7 @@
 -- Which questions are declined and by which number, and what a share answers. Assumes nothing.
 use mathlib.Core.Path.{_≡_}
 use mathlib.Core.List.{List, [], _∷_}
-use mathlib.Core.Bool.{Bool, true, false, cond, not, _&&_, _||_}
+use mathlib.Core.Bool.{Bool, false, not, _&&_, _||_}
 use Prim.Native.Nat.{ℕ, _*_, _≤_, _<_}
 use lib.Dec.{eqb, ltb}
 use lib.ListN.{length, getD}
@@ -9,8 +9,8 @@ use Rattle.std.specs.shelf.Lists.{sum}
 use Rattle.std.specs.declared.option.Option.{Option}
 use Rattle.std.specs.declared.option.Option.the-variants.{Some, None}
 use Rattle.std.specs.declared.result.Result.{Result}
-use Rattle.std.specs.declared.result.Result.the-variants.{Ok, Err}
 use Rattle.std.specs.Vec.{made}
+use Rattle.sharing.specs.Declining.{firstOf, answered, placed}
 use Rattle.sharing.specs.Laws.{Fair}
 use Rattle.sharing.specs.declared.refusal.Refusal.{Refusal}
 use Rattle.sharing.specs.declared.refusal.Refusal.the-variants.{Lengths, NothingClaimed, TooLarge}
@@ -20,11 +20,6 @@ abbrev pub numbered : Refusal → ℕ
 numbered Lengths = 21
 numbered NothingClaimed = 22
 numbered TooLarge = 23
-
--- What stands beside the first condition that holds.
-abbrev pub firstOf : {X : Type 0} → List (Bool × X) → Option X
-firstOf [] = None
-firstOf ((b, x) ∷ rest) = cond b (Some x) (firstOf rest)
 
 -- Some number of the list is above the limit.
 abbrev pub anyAbove : ℕ → List ℕ → Bool
@@ -52,16 +47,6 @@ pub record Asked (claims : List ℕ) (total places : ℕ) : Type 0 where
   pub each : (i : ℕ) → getD claims i 0 ≤ 300000000000
   pub whole : sum claims ≤ 76800000000000
   pub small : total * sum claims ≤ 9000000000000000000
-
--- The answer: why the question is declined, or else x.
-abbrev pub answered : {X : Type 0} → Option Refusal → X → Result X Refusal
-answered None x = Ok x
-answered (Some why) x = Err why
-
--- What stands in the places at the return: the parts, or what stood there before.
-abbrev pub placed : Option Refusal → List ℕ → List ℕ → List ℕ
-placed None new old = new
-placed (Some why) new old = old
 
 -- A share by a rule that means f, and its answer r: the places held old before it, and hold new after it.
 pub record Shared (f : List ℕ → ℕ → List ℕ) (claims : List ℕ) (total : ℕ) (old new : List ℕ) (r : Result (Unit {0}) Refusal) : Type 0 where

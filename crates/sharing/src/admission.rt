@@ -4,7 +4,8 @@ ghost use Prim.Native.Nat.{_≤_};
 ghost use lib.ListN.{length};
 ghost use Rattle.std.specs.shelf.Lists.{sum};
 ghost use Rattle.std.specs.declared.option.Option.the-variants.{Some, None};
-ghost use Rattle.sharing.specs.Questions.{anyAbove, declined, answered};
+ghost use Rattle.sharing.specs.Declining.{answered};
+ghost use Rattle.sharing.specs.Questions.{anyAbove, declined};
 use crate::refusal::Refusal;
 
 const MOST_CLAIMS: usize = 256;

@@ -1,5 +1,4 @@
 pub mod Declining
-pub mod Examples
 pub mod Laws
 pub mod Places
 pub mod Questions

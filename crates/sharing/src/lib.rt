@@ -16,5 +16,4 @@ pub use refusal::RefusalDebug;
 pub use refusal::RefusalDisplay;
 pub use refusal::RefusalPartialEq;
 pub use rule::Share;
-pub use theorems::examples_hold;
 pub use theorems::settlement_shares_are_accepted;

@@ -1,11 +1,5 @@
 // Statements about the definitions alone. Each function's contract is the statement; the function itself does nothing.
-ghost use Rattle.sharing.specs.Examples.{Table-holds};
 ghost use Rattle.sharing.specs.Questions.{Rank-accepted, Compensation-accepted};
-
-// The worked examples come out as their table says.
-pub fn examples_hold()
-    ensures { λ _. ⌜ Table-holds ⌝ }
-{}
 
 // No share that the settlement of a month asks for is declined.
 pub fn settlement_shares_are_accepted()

@@ -1,0 +1,9 @@
+pub mod Admitted
+pub mod Bounded
+pub mod Dealt
+pub mod Declining
+pub mod Examples
+pub mod Filling
+pub mod Paid
+pub mod Ranked
+pub mod Settled

@@ -1,0 +1,9 @@
+pub mod Admitting
+pub mod Dealing
+pub mod Dividing
+pub mod Examples
+pub mod Figures
+pub mod Kinds
+pub mod Laws
+pub mod Prices
+pub mod Refusals

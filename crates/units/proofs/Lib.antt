@@ -1,0 +1,3 @@
+pub mod Fitting
+pub mod Paying
+pub mod Products

@@ -1,0 +1,4 @@
+pub mod Fees
+pub mod Fits
+pub mod Limits
+pub mod Payments

@@ -1,0 +1,46 @@
+// The quantities of a settlement, told apart: each is a number in a struct of its own, made, read and
+// converted only by named functions.
+mod energy;
+mod money;
+mod payment;
+mod price;
+mod theorems;
+mod transfer;
+
+pub use energy::Energy;
+pub use energy::EnergyDebug;
+pub use energy::EnergyEq;
+pub use energy::EnergyOrd;
+pub use energy::EnergyPartialEq;
+pub use energy::EnergyPartialOrd;
+pub use energy::Hundredths;
+pub use energy::HundredthsDebug;
+pub use energy::HundredthsEq;
+pub use energy::HundredthsOrd;
+pub use energy::HundredthsPartialEq;
+pub use energy::HundredthsPartialOrd;
+pub use money::Fen;
+pub use money::FenDebug;
+pub use money::FenEq;
+pub use money::FenOrd;
+pub use money::FenPartialEq;
+pub use money::FenPartialOrd;
+pub use money::Grains;
+pub use money::GrainsDebug;
+pub use money::GrainsEq;
+pub use money::GrainsOrd;
+pub use money::GrainsPartialEq;
+pub use money::GrainsPartialOrd;
+pub use payment::Payment;
+pub use payment::PaymentDebug;
+pub use payment::PaymentEq;
+pub use payment::PaymentPartialEq;
+pub use payment::pay;
+pub use price::Price;
+pub use price::PriceDebug;
+pub use price::PriceEq;
+pub use price::PriceOrd;
+pub use price::PricePartialEq;
+pub use price::PricePartialOrd;
+pub use theorems::sums_fit;
+pub use transfer::fee;

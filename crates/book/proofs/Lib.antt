@@ -1,0 +1,13 @@
+pub mod AccountFacts
+pub mod AccountLoops
+pub mod AccountMoves
+pub mod Copies
+pub mod Figured
+pub mod Kept
+pub mod Makings
+pub mod PlantFacts
+pub mod Props
+pub mod RowFacts
+pub mod Runs
+pub mod TableLoops
+pub mod Tables

@@ -1,4 +1,4 @@
-// The calls of the month, part by part. Some of them are declined, and show why.
+// The calls of the month, part by part, and those of the journal. Some of them are declined, and show why.
 use book::Call;
 use market::Class;
 use market::Rank;
@@ -105,5 +105,17 @@ pub fn next_month() -> [Call; 4] {
         enter(101, 1, Rank::InterProvincePriority, 500_000, 270_000),
         meter(1, 400_003, 0),
         Call::Issue(1),
+    ]
+}
+
+pub fn journal() -> [Call; 7] {
+    [
+        enrol(1, Class::Hydro, 288_000),
+        enter(11, 1, Rank::InProvinceMarket, 1, 231_000),
+        enter(12, 1, Rank::InProvinceMarket, 1, 231_000),
+        Call::Issue(1),
+        meter(1, 1, 0),
+        Call::Issue(1),
+        Call::Close(1),
     ]
 }

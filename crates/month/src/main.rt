@@ -1,11 +1,13 @@
-// Walks a month book through a month and a turn, and prints each call and its answer.
+// Walks a month book through a month and a turn, then replays a journal on a second book. Prints each call and its answer.
 mod calls;
 mod words;
 
+use book::Answer;
 use book::Book;
 use book::Call;
 use book::RefusalDisplay;
 use journal::make;
+use journal::replay;
 use sharing::EqualRatio;
 use sharing::EqualRatioShare;
 use std::error::AnyError;
@@ -39,7 +41,7 @@ fn run(rt: &LibcRuntime) -> Result<(), AnyError> {
     settle_plant(rt, &book, 1)?;
     make_all(rt, &mut book, &calls::next_month())?;
     settle_plant(rt, &book, 1)?;
-    Ok(())
+    replay_journal(rt)
 }
 
 fn open(rt: &LibcRuntime, book: &mut MonthBook, month: u8) -> io::Result<()> {
@@ -95,6 +97,37 @@ fn settle(rt: &LibcRuntime, book: &MonthBook, plant: u8, places: usize) -> Resul
             &settlement,
         )?,
         Err(refusal) => println!(rt, "  declined, {refusal}")?,
+    }
+    Ok(())
+}
+
+fn replay_journal(rt: &LibcRuntime) -> Result<(), AnyError> {
+    let mut book = Book::new(rt.alloc(), EqualRatio)?;
+    let calls = calls::journal();
+    let mut answers = [Answer::Done; 7];
+    let count = calls.len();
+    println!(
+        rt,
+        "open a new book for month 8 and replay a journal of {count} calls on it"
+    )?;
+    match replay(
+        &mut book,
+        8,
+        Price::from_micro_yuan(260_000),
+        EqualRatio,
+        &calls,
+        &mut answers,
+    ) {
+        Ok(()) => show_journal(rt, &calls, &answers)?,
+        Err(refusal) => println!(rt, "  declined, {refusal}")?,
+    }
+    settle_plant(rt, &book, 1)
+}
+
+fn show_journal(rt: &LibcRuntime, calls: &[Call], answers: &[Answer]) -> io::Result<()> {
+    for (call, answer) in calls.iter().zip(answers) {
+        words::show_call(rt, call)?;
+        words::show_answer(rt, *answer)?;
     }
     Ok(())
 }

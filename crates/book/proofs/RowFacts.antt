@@ -207,10 +207,6 @@ plant-energy p n e xs c r f = omega (arith, plant-total p (withEnergy n e xs), p
 pub in-all-energy : (n : ℕ) (e : Energy) (xs : List Row) (c : Row) → rising xs ≡ true → rowOf n xs ≡ Some c → energyInAll (withEnergy n e xs) + kwhOf c ≡ energyInAll xs + e .kwh
 in-all-energy n e xs c r f = omega (arith, all-total (withEnergy n e xs), all-total xs, total-energy kwhOf n e xs c r f)
 
-pub plant-energy-own : (n : ℕ) (e : Energy) (xs : List Row) (c : Row) → rising xs ≡ true → rowOf n xs ≡ Some c → plantSum (c .plant) (withEnergy n e xs) + kwhOf c ≡ plantSum (c .plant) xs + e .kwh
-plant-energy-own n e xs c r f =
-    omega (arith, plant-energy (c .plant) n e xs c r f, share-own (c .plant) c refl, share-own (c .plant) (atEnergy e c) refl)
-
 -- Another energy leaves the sum of each other plant.
 pub plant-energy-other : (p n : ℕ) (e : Energy) (xs : List Row) (c : Row) → rising xs ≡ true → rowOf n xs ≡ Some c → (c .plant ≡ p → ⊥) → plantSum p (withEnergy n e xs) ≡ plantSum p xs
 plant-energy-other p n e xs c r f q =

@@ -36,10 +36,6 @@ pub some-of : {X : Type 0} (o : Option X) → isSome o ≡ true → (x : X) × (
 some-of None h = absurd (true≢false (sym h))
 some-of (Some x) h = (x, refl)
 
-pub none-of : {X : Type 0} (o : Option X) → isSome o ≡ false → o ≡ None
-none-of None h = refl
-none-of (Some x) h = absurd (true≢false h)
-
 -- A test of the contract that stands under a number.
 pub said-of : (o : Option Row) (c : Row) (test : Row → Bool) → o ≡ Some c → says o test ≡ false → test c ≡ false
 said-of o c test h e = sym (ap (λ y. says y test) h) ∙ e

@@ -11,6 +11,8 @@ mod compensation;
 mod moves;
 mod questions;
 
+pub use moves::open_within;
+
 #[derive(Drop)]
 pub struct Book<R> {
     rule: R,

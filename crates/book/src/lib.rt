@@ -15,6 +15,7 @@ pub use account::Reading;
 pub use accounts::AccountTable;
 pub use accounts::PLANTS;
 pub use book::Book;
+pub use book::open_within;
 pub use call::Answer;
 pub use call::Call;
 pub use refusal::Refusal;

@@ -1,7 +1,7 @@
 // A list of calls, replayed on a book that is opened for it.
 ghost use mathlib.Core.Path.{_≡_};
 ghost use lib.ListN.{length};
-ghost use Rattle.book.specs.Calls.{declinedBy, openWithin};
+ghost use Rattle.book.specs.Calls.{declinedBy};
 ghost use Rattle.book.specs.Holds.{ledgerOf};
 ghost use Rattle.book.specs.Tallies.{Run};
 ghost use Rattle.journal.specs.Replays.{replayDeclined, Replayed};
@@ -10,6 +10,7 @@ use book::Answer;
 use book::Book;
 use book::Call;
 use book::Refusal;
+use book::open_within;
 use sharing::Share;
 use units::Price;
 
@@ -42,13 +43,6 @@ fn may_replay(month: u8, residential: Price, calls: usize, answers: usize) -> Re
         return Err(Refusal::SliceLength);
     }
     Ok(())
-}
-
-// Whether a book can be opened with these figures.
-fn open_within(month: u8, residential: Price) -> bool
-    ensures { λ r. ⌜ r ≡ openWithin month residential ⌝ }
-{
-    1 <= month && month <= 12 && residential.within_limit()
 }
 
 fn make_all<R: Share>(book: &mut Book<R>, calls: &[Call], answers: &mut [Answer])

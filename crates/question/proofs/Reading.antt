@@ -4,13 +4,11 @@ use mathlib.Core.List.{List, [], _∷_, _++_}
 use Prim.Native.Nat.{ℕ, _+_, _<_}
 use native.Mathlib.Omega.{arith}
 use lib.ListN.{length}
-use Rattle.std.specs.declared.option.Option.{Option}
-use Rattle.std.specs.declared.option.Option.the-variants.{Some, None}
+use Rattle.std.specs.declared.option.Option.the-variants.{Some}
 use Rattle.std.specs.declared.result.Result.{Result}
 use Rattle.std.specs.declared.result.Result.the-variants.{Ok, Err}
-use Rattle.std.proofs.shelf.Lists.{append-assoc, append-nil}
+use Rattle.std.proofs.shelf.Lists.{append-assoc}
 use Rattle.question.specs.declared.fault.Fault.{Fault}
-use Rattle.question.specs.declared.fault.Fault.the-variants.{BadClaim}
 use Rattle.question.specs.Asking.{numberOf, withClaim, claimsOf}
 use Rattle.question.specs.Stretches.{withWord}
 
@@ -30,11 +28,3 @@ claim-more read n claim (b ∷ bs) words rest e h is =
     onto-claim read n claim (claimsOf (n + 1) rest)
     ∙ ap (λ o. onto read (withClaim n o (claimsOf (n + 1) rest))) (sym is)
     ∙ ap (λ ws. onto read (claimsOf n ws)) (sym e)
-
-pub claim-bad : (read : List ℕ) (n : ℕ) (word : List ℕ) (words rest : List (List ℕ)) → words ≡ withWord word rest → 0 < length word → numberOf word ≡ None → onto read (claimsOf n words) ≡ Err (BadClaim n)
-claim-bad read n [] words rest e h is = absurd (omega arith)
-claim-bad read n (b ∷ bs) words rest e h is =
-    ap (λ ws. onto read (claimsOf n ws)) e ∙ ap (λ o. onto read (withClaim n o (claimsOf (n + 1) rest))) is
-
-pub claim-none : (read : List ℕ) (n : ℕ) (words : List (List ℕ)) → words ≡ [] → onto read (claimsOf n words) ≡ Ok read
-claim-none read n words e = ap (λ ws. onto read (claimsOf n ws)) e ∙ ap Ok (append-nil read)

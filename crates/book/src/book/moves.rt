@@ -179,7 +179,8 @@ impl<R: Share + Drop> Book<R> {
     }
 }
 
-fn open_within(month: u8, residential: Price) -> bool
+// Whether a book can be opened with these figures.
+pub fn open_within(month: u8, residential: Price) -> bool
     ensures { λ r. ⌜ r ≡ openWithin month residential ⌝ }
 {
     1 <= month && month <= 12 && residential.within_limit()

@@ -1,4 +1,6 @@
 // The month book: contracts, accounts, and every call that changes them.
+#![tactic(auto)]
+
 mod account;
 mod accounts;
 mod book;

@@ -1,4 +1,6 @@
 // Makes the calls that lines of text ask for on a month book, and prints the answer of each.
+#![tactic(auto)]
+
 mod answers;
 mod line;
 

@@ -1,4 +1,6 @@
 // Runs of the month book on examples.
+#![tactic(auto)]
+
 #[cfg(test)]
 mod compensations;
 #[cfg(test)]

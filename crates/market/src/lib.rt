@@ -1,4 +1,6 @@
 // The market's tables, the division of metered energy over the ranks, and the settlement of one plant's month.
+#![tactic(auto)]
+
 mod admission;
 mod amounts;
 mod division;

@@ -106,7 +106,7 @@ fn share_exactly<R: Share>(rule: &R, claims: &[u64], total: u64, parts: &mut [u6
     requires few { length claims.now ≤ 256 }
     requires whole { sum claims.now ≤ 3000000000 }
     requires covered { total ≤ sum claims.now }
-    ensures { parts.new ≡ shares rule.now claims.now total }
+    ensures { parts.new ≡ R.shares rule.now claims.now total }
 {
     match rule.share(claims, total, parts) {
         Ok(()) => {}
@@ -130,7 +130,7 @@ fn share_in_room<R: Share>(
     requires energies { length energies.old ≡ length contracts.now }
     requires whole { contracted contracts.now ≤ 3000000000 }
     requires covered { part.kwh ≤ sum (claims_of (rank_number rank) contracts.now) }
-    ensures { energies.new ≡ laid (rank_number rank) contracts.now (shares rule.now (claims_of (rank_number rank) contracts.now) part.kwh) energies.old }
+    ensures { energies.new ≡ laid (rank_number rank) contracts.now (R.shares rule.now (claims_of (rank_number rank) contracts.now) part.kwh) energies.old }
 {
     let n = gather(contracts, rank, claims);
     let room = &mut parts[0..n];
@@ -149,7 +149,7 @@ fn share_rank<R: Share>(
     requires energies { length energies.old ≡ length contracts.now }
     requires whole { contracted contracts.now ≤ 3000000000 }
     requires covered { part.kwh ≤ sum (claims_of (rank_number rank) contracts.now) }
-    ensures { energies.new ≡ laid (rank_number rank) contracts.now (shares rule.now (claims_of (rank_number rank) contracts.now) part.kwh) energies.old }
+    ensures { energies.new ≡ laid (rank_number rank) contracts.now (R.shares rule.now (claims_of (rank_number rank) contracts.now) part.kwh) energies.old }
 {
     let mut claims = [0; MOST_CONTRACTS];
     let mut parts = [0; MOST_CONTRACTS];
@@ -176,7 +176,7 @@ pub(crate) fn share_ranks<R: Share>(
     requires whole { contracted contracts.now ≤ 3000000000 }
     requires seven { length parts.now ≡ 7 }
     requires covered { Covered contracts.now (kwhs parts.now) }
-    ensures { energies.new ≡ laid_all (λ n. shares rule.now (claims_of n contracts.now) (slice_index (kwhs parts.now) (n - 1))) contracts.now energies.old }
+    ensures { energies.new ≡ laid_all (λ n. R.shares rule.now (claims_of n contracts.now) (slice_index (kwhs parts.now) (n - 1))) contracts.now energies.old }
 {
     share_rank(
         rule,

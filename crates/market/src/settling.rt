@@ -26,9 +26,9 @@ fn settle_sound<R: Share>(
     requires sound { Sound plant contracts.now }
     requires energies { length energies.old ≡ length contracts.now }
     requires amounts { length amounts.old ≡ length contracts.now }
-    ensures answer { result ≡ settlement_of (figures_of plant contracts.now (shares rule.now)) }
-    ensures energies { energies.new ≡ settled_energies (figures_of plant contracts.now (shares rule.now)) }
-    ensures amounts { amounts.new ≡ settled_amounts (figures_of plant contracts.now (shares rule.now)) }
+    ensures answer { result ≡ settlement_of (figures_of plant contracts.now (R.shares rule.now)) }
+    ensures energies { energies.new ≡ settled_energies (figures_of plant contracts.now (R.shares rule.now)) }
+    ensures amounts { amounts.new ≡ settled_amounts (figures_of plant contracts.now (R.shares rule.now)) }
 {
     let mut ranks = [Energy::from_kwh(0); RANKS];
     let left = fill_ranks(plant.metered, plant.commissioning, contracts, &mut ranks);
@@ -59,7 +59,7 @@ pub fn settle<R: Share>(
     energies: &mut [Energy],
     amounts: &mut [Grains],
 ) -> Result<Settlement, Refusal>
-    ensures { Settled (figures_of plant contracts.now (shares rule.now)) energies.old energies.new amounts.old amounts.new result }
+    ensures { Settled (figures_of plant contracts.now (R.shares rule.now)) energies.old energies.new amounts.old amounts.new result }
 {
     admit(plant, contracts, energies.len(), amounts.len())?;
     Ok(settle_sound(rule, plant, contracts, energies, amounts))

@@ -1,4 +1,6 @@
 // Tests of `units` and `market`: edges and refusals, and settlements run on examples.
+#![tactic(auto)]
+
 #[cfg(test)]
 mod divisions;
 #[cfg(test)]

@@ -1,4 +1,6 @@
 // Walks a month book through a month and a turn, then replays a journal on a second book. Prints each call and its answer.
+#![tactic(auto)]
+
 mod calls;
 mod words;
 

@@ -15,13 +15,13 @@ pub enum ChosenRule {
 }
 
 impl ChosenRule {
-    // The rule that a word names: `equal-ratio` or `in_order`.
+    // The rule that a word names: `equal-ratio` or `in-order`.
     pub fn named(word: &[u8]) -> Option<ChosenRule>
         ensures { result ≡ rule_named word.now }
     {
-        if word == b"equal-ratio" {
+        if word == b"equal-ratio".as_slice() {
             Some(ChosenRule::EqualRatio)
-        } else if word == b"in-order" {
+        } else if word == b"in-order".as_slice() {
             Some(ChosenRule::InOrder)
         } else {
             None

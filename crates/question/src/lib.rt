@@ -1,4 +1,6 @@
 // Questions of a share as a person types them, and their answers step by step.
+#![tactic(auto)]
+
 mod chosen;
 mod fault;
 mod line;

@@ -1,4 +1,6 @@
 // Settles the month sheet on standard input: prints a line for each metered plant, or the line of the first fault.
+#![tactic(auto)]
+
 use anyhow::anyhow;
 use sheet::MOST_BYTES;
 use statement::statement;

@@ -1,4 +1,6 @@
 // Shares totals over claims as text on standard input asks for it, and prints each step.
+#![tactic(auto)]
+
 use anyhow::anyhow;
 use question::{
     ChosenRule, Failure, Question, Step, claimed_in_all, read_question, split_line, work_out,

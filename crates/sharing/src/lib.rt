@@ -1,4 +1,6 @@
 // Sharing rules: how a total is divided over claims in whole units, exactly and always in the same way.
+#![tactic(auto)]
+
 mod admission;
 mod equal_ratio;
 mod in_order;

@@ -1,4 +1,6 @@
 // Tests of the sharing rules at their edges, and of questions as text.
+#![tactic(auto)]
+
 #[cfg(test)]
 mod edges;
 #[cfg(test)]

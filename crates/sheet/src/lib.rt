@@ -1,4 +1,6 @@
 // The month sheet: bytes that open a book and make its calls, read in one pass and loaded up to the first fault.
+#![tactic(auto)]
+
 mod fault;
 mod item;
 mod kind;

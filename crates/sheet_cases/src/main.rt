@@ -1,5 +1,7 @@
 // Settles sheets that are given as text, one to a line: a name, a space, and the bytes in hexadecimal digits.
 // For each it prints a line with the name, and then the statement. A number as the argument has each settled so many times, to be timed.
+#![tactic(auto)]
+
 use anyhow::anyhow;
 use question::split_line;
 use statement::statement;

@@ -1,4 +1,6 @@
 // The statement of a month sheet: a line for each metered plant, or the line of the first fault.
+#![tactic(auto)]
+
 mod issuing;
 mod line;
 

@@ -1,5 +1,7 @@
 // The quantities of a settlement, told apart: each is a number in a struct of its own, made, read and
 // converted only by named functions.
+#![tactic(auto)]
+
 mod energy;
 mod money;
 mod payment;

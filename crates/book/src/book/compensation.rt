@@ -1,6 +1,6 @@
 // Compensations: one plant is credited, and all enrolled plants bear it.
 ghost use Rattle.std.specs.Prelude.{◌≡◌, ℕ, ◌*◌, ◌<◌, ◌≤◌, true, length, pos, sum, slice_index};
-ghost use Rattle.book.specs.Accounts.{any_account, has_generated, compensated as accountsCompensated};
+ghost use Rattle.book.specs.Accounts.{any_account, has_generated, compensated as accounts_compensated};
 ghost use Rattle.book.specs.Calls.{Makes, told};
 ghost use Rattle.book.specs.Holds.{ledger_of};
 ghost use Rattle.book.specs.Rows.{plant_ok};
@@ -20,7 +20,7 @@ fn share_out<R: Share>(rule: &R, claims: &[u64], total: u64, parts: &mut [u64])
     requires each { (i : ℕ) → slice_index claims.now i ≤ 3000000000 }
     requires some { 0 < sum claims.now }
     requires small { total ≤ 100000000 }
-    ensures parts { parts.new ≡ shares rule.now claims.now total }
+    ensures parts { parts.new ≡ R.shares rule.now claims.now total }
     ensures adds { sum parts.new ≡ total }
 {
     match rule.share(claims, total, parts) {
@@ -50,7 +50,7 @@ impl<R: Share> Book<R> {
         requires claims { length claims.old ≡ 24 }
         requires parts { length parts.old ≡ 24 }
         requires some { any_account has_generated (ledger_of R.Share.shares self.now).accounts ≡ true }
-        ensures { result.rows ≡ accountsCompensated (R.Share.shares self.now.rule) plant fen (ledger_of R.Share.shares self.now).accounts }
+        ensures { result.rows ≡ accounts_compensated (R.Share.shares self.now.rule) plant fen (ledger_of R.Share.shares self.now).accounts }
     {
         let n = self.accounts.claims(claims);
         let room = &mut parts[0..n];

@@ -2,9 +2,9 @@ use Rattle.std.proofs.Common.{arith}
 use Rattle.std.proofs.lemmas.Int.{ints}
 use Rattle.market.proofs.amounts.conclude.Goals as goal
 
-pub sum-of-requires : goal.sum-of-requires
-sum-of-requires c =
+pub sum_of-requires : goal.sum_of-requires
+sum_of-requires c =
     record {
-      a = omega (arith, ints, c.difference-of.ensures, c.sum-of-energy-amounts.ensures, c.sum-of-with-commissioning.ensures, c.worth.ensures, c.worth-2.ensures, c.assessment-held-back.ensures);
+      a = omega (arith, ints, c.difference_of.ensures, c.sum_of-energy_amounts.ensures, c.sum_of-with_commissioning.ensures, c.worth.ensures, c.worth-2.ensures, c.assessment-held_back.ensures);
       b = omega (arith, c.requires.side);
     }

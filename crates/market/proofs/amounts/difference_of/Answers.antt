@@ -5,8 +5,8 @@ use Rattle.market.proofs.amounts.difference_of.Goals as goal
 
 pub unwrap-requires : goal.unwrap-requires
 unwrap-requires c =
-    grains_held c.checked-sub.result (c.args.a.count -ℤ c.args.b.count) c.checked-sub.ensures (omega (arith, ints, c.requires.a, c.requires.b))
+    grains_held c.checked_sub.result (c.args.a.count -ℤ c.args.b.count) c.checked_sub.ensures (omega (arith, ints, c.requires.a, c.requires.b))
 
 pub returns : goal.returns
 returns c =
-    grains_value c.checked-sub.result (c.args.a.count -ℤ c.args.b.count) c.unwrap.result c.checked-sub.ensures (omega (arith, ints, c.requires.a, c.requires.b)) c.unwrap.ensures
+    grains_value c.checked_sub.result (c.args.a.count -ℤ c.args.b.count) c.unwrap.result c.checked_sub.ensures (omega (arith, ints, c.requires.a, c.requires.b)) c.unwrap.ensures

@@ -5,8 +5,8 @@ use Rattle.market.proofs.amounts.sum_of.Goals as goal
 
 pub unwrap-requires : goal.unwrap-requires
 unwrap-requires c =
-    grains_held c.checked-add.result (c.args.a.count +ℤ c.args.b.count) c.checked-add.ensures (omega (arith, ints, c.requires.a, c.requires.b))
+    grains_held c.checked_add.result (c.args.a.count +ℤ c.args.b.count) c.checked_add.ensures (omega (arith, ints, c.requires.a, c.requires.b))
 
 pub returns : goal.returns
 returns c =
-    grains_value c.checked-add.result (c.args.a.count +ℤ c.args.b.count) c.unwrap.result c.checked-add.ensures (omega (arith, ints, c.requires.a, c.requires.b)) c.unwrap.ensures
+    grains_value c.checked_add.result (c.args.a.count +ℤ c.args.b.count) c.unwrap.result c.checked_add.ensures (omega (arith, ints, c.requires.a, c.requires.b)) c.unwrap.ensures

@@ -13,7 +13,7 @@ fill-requires c =
     let m = c.args.metered.kwh in
     let xs = kwhs c.args.claims.now in
     let n = length c.args.parts.now in
-    let known = division_long m xs n (was_none (divide_declined m xs n) tt tt c.in-ok-admit.ensures) in
+    let known = division_long m xs n (was_none (divide_declined m xs n) tt tt c.in_ok-admit.ensures) in
     record {
       long = omega (arith, known.0, known.1, length-map c.args.claims.now (λ (e : Energy). e.kwh));
       fits = omega (arith, known.2);
@@ -24,7 +24,7 @@ returns c =
     let m = c.args.metered.kwh in
     let xs = kwhs c.args.claims.now in
     let old = c.args.parts.now in
-    let none : divide_declined m xs (length old) ≡ None = was_none (divide_declined m xs (length old)) tt tt c.in-ok-admit.ensures in
+    let none : divide_declined m xs (length old) ≡ None = was_none (divide_declined m xs (length old)) tt tt c.in_ok-admit.ensures in
     let left : c.fill.result.0.kwh ≡ left_over m xs = ap (λ (e : Energy). e.kwh) c.fill.ensures.left in
     let missing : c.fill.result.1.kwh ≡ unfilled m xs = ap (λ (e : Energy). e.kwh) c.fill.ensures.missing in
     let parts : kwhs c.fill.new.parts ≡ divided m xs = ap kwhs c.fill.ensures.after ∙ kwhs_energies (divided m xs) in

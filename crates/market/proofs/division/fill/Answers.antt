@@ -4,8 +4,8 @@ use Rattle.market.specs.Dividing.{energy, energies, kwhs}
 use Rattle.market.proofs.Filling.{taken, divided_is, sum_drop, fill_more, fill_all}
 use Rattle.market.proofs.division.fill.Goals as goal
 
-pub overflow-add-missing : goal.overflow-add-missing
-overflow-add-missing c = let s = sum_drop c.args.claims.now c.loop-i.i c.loop-i-test.true in omega arith
+pub overflow_add-missing : goal.overflow_add-missing
+overflow_add-missing c = let s = sum_drop c.args.claims.now c.loop-i.i c.loop-i-test.true in omega arith
 
 pub loop-i-init : goal.loop-i-init
 loop-i-init c = (refl, omega arith, refl)
@@ -15,7 +15,7 @@ loop-i-preserved c =
     let s = sum_drop c.args.claims.now c.loop-i.i c.loop-i-test.true in (
       omega arith,
       omega arith,
-      fill_more c.loop-i.left c.args.claims.now c.loop-i.parts c.loop-i.i c.kwh-taken.result c.part-of-part.result (omega arith) (omega arith) (omega arith) (omega arith)
+      fill_more c.loop-i.left c.args.claims.now c.loop-i.parts c.loop-i.i c.kwh-taken.result c.part_of-part.result (omega arith) (omega arith) (omega arith) (omega arith)
           ∙ c.loop-i.invariant.2,
     )
 

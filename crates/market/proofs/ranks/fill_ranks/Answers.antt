@@ -8,8 +8,8 @@ use Rattle.market.proofs.ranks.fill_ranks.Goals as goal
 
 pub fill-requires : goal.fill-requires
 fill-requires c =
-    let claims = c.claims-of-ranks-claims.result in
-    let is = c.claims-of-ranks-claims.ensures in
+    let claims = c.claims_of_ranks-claims.result in
+    let is = c.claims_of_ranks-claims.ensures in
     record {
       long = omega (arith, c.requires.seven, length-map claims (λ (e : Energy). e.kwh), ap length is);
       fits = omega (arith, ap sum is, rank_claims_sum c.args.commissioning.kwh c.args.contracts.now, c.requires.whole, c.requires.commissioning);
@@ -18,7 +18,7 @@ fill-requires c =
 pub returns : goal.returns
 returns c =
     let m = c.args.metered.kwh in
-    let is = c.claims-of-ranks-claims.ensures in
+    let is = c.claims_of_ranks-claims.ensures in
     record {
       left = ap (λ (e : Energy). e.kwh) c.fill.ensures.left ∙ ap (left_over m) is;
       after = ap kwhs c.fill.ensures.after ∙ kwhs_energies _ ∙ ap (divided m) is;

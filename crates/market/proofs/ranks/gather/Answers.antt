@@ -5,28 +5,28 @@ use Rattle.market.specs.Kinds.{rank_number}
 use Rattle.market.proofs.Dealt.{claims_hit, claims_miss, claims_few}
 use Rattle.market.proofs.Filling.{front_more, front_same}
 use Rattle.market.proofs.ranks.gather.Goals as goal
-use Rattle.market.proofs.ranks.gather.Goals.{then-is-of, else-is-of}
+use Rattle.market.proofs.ranks.gather.Goals.{then-is_of, else-is_of}
 
 pub bounds-claims-n : goal.bounds-claims-n
 bounds-claims-n c =
     let n = rank_number c.args.rank in
     let cs = c.args.contracts.now in
-    let hit = claims_hit n cs c.loop-contract.contract-index c.loop-contract-test.true (sym c.is-of.ensures ∙ c.if-is-of.true) in
+    let hit = claims_hit n cs c.loop-contract.contract-index c.loop-contract-test.true (sym c.is_of.ensures ∙ c.if-is_of.true) in
     omega (arith, ap length hit, claims_few n cs)
 
-pub offset-bounds-claims-n : goal.offset-bounds-claims-n
-offset-bounds-claims-n c =
+pub offset_bounds-claims-n : goal.offset_bounds-claims-n
+offset_bounds-claims-n c =
     let n = rank_number c.args.rank in
     let cs = c.args.contracts.now in
-    let hit = claims_hit n cs c.loop-contract.contract-index c.loop-contract-test.true (sym c.is-of.ensures ∙ c.if-is-of.true) in
+    let hit = claims_hit n cs c.loop-contract.contract-index c.loop-contract-test.true (sym c.is_of.ensures ∙ c.if-is_of.true) in
     let within : c.loop-contract.n < length c.args.contracts.now = omega (arith, ap length hit, claims_few n cs) in
     search rules
 
-pub overflow-add-n : goal.overflow-add-n
-overflow-add-n c =
+pub overflow_add-n : goal.overflow_add-n
+overflow_add-n c =
     let n = rank_number c.args.rank in
     let cs = c.args.contracts.now in
-    let hit = claims_hit n cs c.loop-contract.contract-index c.loop-contract-test.true (sym c.is-of.ensures ∙ c.if-is-of.true) in
+    let hit = claims_hit n cs c.loop-contract.contract-index c.loop-contract-test.true (sym c.is_of.ensures ∙ c.if-is_of.true) in
     let within : c.loop-contract.n < length c.args.contracts.now = omega (arith, ap length hit, claims_few n cs) in
     search rules
 
@@ -36,17 +36,17 @@ loop-contract-preserved c =
     let cs = c.args.contracts.now in
     let i = c.loop-contract.contract-index in
     let inv = c.loop-contract.invariant in
-    elim c.if-is-of.branch [
-      | then-is-of w ↦
-          let hit = claims_hit n cs i c.loop-contract-test.true (sym c.is-of.ensures ∙ w.if-is-of.true) in
+    elim c.if-is_of.branch [
+      | then-is_of w ↦
+          let hit = claims_hit n cs i c.loop-contract-test.true (sym c.is_of.ensures ∙ w.if-is_of.true) in
           let as_read = hit ∙ ap (λ x. x ∷ claims_of n (drop (i + 1) cs)) (sym w.kwh.ensures) in (
             omega (arith, ap length hit, inv.0, w.n-is),
-            front_more c.loop-contract.claims c.if-is-of.claims c.loop-contract.n c.if-is-of.n _ _ _ (omega (arith, ap length hit, inv.0, claims_few n cs)) w.n-is w.claims-is (ap (λ r. take c.loop-contract.n c.loop-contract.claims ++ r) (sym as_read) ∙ inv.1),
+            front_more c.loop-contract.claims c.if-is_of.claims c.loop-contract.n c.if-is_of.n _ _ _ (omega (arith, ap length hit, inv.0, claims_few n cs)) w.n-is w.claims-is (ap (λ r. take c.loop-contract.n c.loop-contract.claims ++ r) (sym as_read) ∙ inv.1),
           )
-      | else-is-of w ↦
-          let miss = claims_miss n cs i c.loop-contract-test.true (sym c.is-of.ensures ∙ w.if-is-of.false) in (
+      | else-is_of w ↦
+          let miss = claims_miss n cs i c.loop-contract-test.true (sym c.is_of.ensures ∙ w.if-is_of.false) in (
             omega (arith, ap length miss, inv.0, w.n-is),
-            front_same c.loop-contract.claims c.if-is-of.claims c.loop-contract.n c.if-is-of.n _ _ w.n-is w.claims-is (ap (λ r. take c.loop-contract.n c.loop-contract.claims ++ r) (sym miss) ∙ inv.1),
+            front_same c.loop-contract.claims c.if-is_of.claims c.loop-contract.n c.if-is_of.n _ _ w.n-is w.claims-is (ap (λ r. take c.loop-contract.n c.loop-contract.claims ++ r) (sym miss) ∙ inv.1),
           )
     ]
 

@@ -10,13 +10,13 @@ use Rattle.sharing.proofs.Granted.{was_none}
 use Rattle.market.proofs.Settled.{settles}
 use Rattle.market.proofs.settling.settle.Goals as goal
 
-pub settle-sound-requires : goal.settle-sound-requires
-settle-sound-requires g c =
+pub settle_sound-requires : goal.settle_sound-requires
+settle_sound-requires g c =
     let p = c.args.plant in
     let cs = c.args.contracts.now in
     let n = length c.args.energies.now in
     let m = length c.args.amounts.now in
-    let known = admitted p cs n m (was_none (settle_declined p cs n m) tt tt c.in-ok-admit.ensures) in
+    let known = admitted p cs n m (was_none (settle_declined p cs n m) tt tt c.in_ok-admit.ensures) in
     record { sound = known.0; energies = known.1; amounts = known.2 }
 
 pub returns : goal.returns
@@ -26,13 +26,13 @@ returns g c =
     let before = c.args.energies.now in
     let old = c.args.amounts.now in
     let f = figures_of p cs (g.R.Share.shares c.args.rule.now) in
-    let none : settle_declined p cs (length before) (length old) ≡ None = was_none (settle_declined p cs (length before) (length old)) tt tt c.in-ok-admit.ensures in
+    let none : settle_declined p cs (length before) (length old) ≡ None = was_none (settle_declined p cs (length before) (length old)) tt tt c.in_ok-admit.ensures in
     let sound = (admitted p cs (length before) (length old) none).0 in
     let kept = settles f (g.met.R.Share.fair c.args.rule.now) sound in
-    let told = c.settle-sound.ensures in
+    let told = c.settle_sound.ensures in
     record {
       answer = ap (answered None) told.answer ∙ ap (λ w. answered w (settlement_of f)) (sym none);
       energies = told.energies ∙ ap (λ w. placed w (settled_energies f) before) (sym none);
       amounts = told.amounts ∙ ap (λ w. placed w (settled_amounts f) old) (sym none);
-      settles = subst (λ (s : Settlement). Settles f c.settle-sound.new.energies s) (sym told.answer) (subst (λ (es : List Energy). Settles f es (settlement_of f)) (sym told.energies) kept);
+      settles = subst (λ (s : Settlement). Settles f c.settle_sound.new.energies s) (sym told.answer) (subst (λ (es : List Energy). Settles f es (settlement_of f)) (sym told.energies) kept);
     }

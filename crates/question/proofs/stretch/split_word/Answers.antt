@@ -6,14 +6,14 @@ use Rattle.question.proofs.stretch.split_word.Goals as goal
 pub returns : goal.returns
 returns c =
     let text = c.args.text.now in
-    let rest = c.split-at.result.1.now in
-    let word = c.split-at-2.result.0.now in
-    let after = c.split-at-2.result.1.now in
-    let from : rest ≡ onward (λ b. not (blank b)) text = c.split-at.ensures.back ∙ c.stretch.ensures.rest in
-    let front : word ≡ before blank rest = c.split-at-2.ensures.front ∙ c.stretch-2.ensures.front in
-    let back : after ≡ onward blank rest = c.split-at-2.ensures.back ∙ c.stretch-2.ensures.rest in
+    let rest = c.split_at.result.1.now in
+    let word = c.split_at-2.result.0.now in
+    let after = c.split_at-2.result.1.now in
+    let from : rest ≡ onward (λ b. not (blank b)) text = c.split_at.ensures.back ∙ c.stretch.ensures.rest in
+    let front : word ≡ before blank rest = c.split_at-2.ensures.front ∙ c.stretch-2.ensures.front in
+    let back : after ≡ onward blank rest = c.split_at-2.ensures.back ∙ c.stretch-2.ensures.rest in
     record {
       words = words_split text rest from ∙ ap (λ w. with_word w (words_of (onward blank rest))) (sym front) ∙ ap (λ l. with_word word (words_of l)) (sym back);
       none = λ h. words_none text rest from (ap length (sym front) ∙ h);
-      shorter = λ h. omega (arith, c.split-at.ensures.back_len, c.split-at-2.ensures.back_len, c.split-at-2.ensures.front-len);
+      shorter = λ h. omega (arith, c.split_at.ensures.back_len, c.split_at-2.ensures.back_len, c.split_at-2.ensures.front_len);
     }

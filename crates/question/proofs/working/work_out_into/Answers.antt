@@ -8,7 +8,7 @@ use Rattle.question.proofs.working.work_out_into.Goals as goal
 
 pub steps-requires : goal.steps-requires
 steps-requires c =
-    let told = c.in-ok-share.ensures in
+    let told = c.in_ok-share.ensures in
     record { long = sym told.fair.long; claimed = omega (arith, told.sizes.whole); given = omega (arith, told.fair.adds) }
 
 pub returns : goal.returns
@@ -16,8 +16,8 @@ returns c =
     let q = asking c.args.question.now in
     let old = c.args.parts.now in
     let parts = c.share.new.parts in
-    let x = c.in-ok-share.field-0 in
-    let is = c.as-slice-claims.ensures.value in
+    let x = c.in_ok-share.field-0 in
+    let is = c.as_slice-claims.ensures.value in
     let S : List ℕ → Type 0 = λ cs. Shared (shares_by q.rule) cs q.total old parts (Ok x) in
-    let long : length old ≡ length q.claims = c.requires ∙ sym c.as-slice-claims.ensures.len ∙ ap length is in
-    worked q old parts (vec_items c.in-ok-all.all) x long (subst S is c.in-ok-share.ensures) (c.in-ok-all.ensures ∙ ap (λ cs. steps_of cs parts) is)
+    let long : length old ≡ length q.claims = c.requires ∙ sym c.as_slice-claims.ensures.len ∙ ap length is in
+    worked q old parts (vec_items c.in_ok-all.all) x long (subst S is c.in_ok-share.ensures) (c.in_ok-all.ensures ∙ ap (λ cs. steps_of cs parts) is)

@@ -4,11 +4,11 @@ use Rattle.sharing.specs.Questions.{declined}
 use Rattle.sharing.specs.Claims.{above_sum}
 use Rattle.sharing.proofs.admission.admit.Goals as goal
 
-pub returns-in-default : goal.returns-in-default
+pub returns-in_default : goal.returns-in_default
 unfolding declined
-returns-in-default c =
+returns-in_default c =
     let large = above_sum 300000000000 c.args.claims.now in
-    let why = c.in-default.ensures in
+    let why = c.in_default.ensures in
     grind (arith, nat_tests)
 
 pub returns-then-claims-places : goal.returns-then-claims-places
@@ -19,13 +19,13 @@ pub returns-then-total-gt0 : goal.returns-then-total-gt0
 unfolding declined
 returns-then-total-gt0 c = search rules
 
-pub returns-in-default-checked-mul : goal.returns-in-default-checked-mul
+pub returns-in_default-checked_mul : goal.returns-in_default-checked_mul
 unfolding declined
-returns-in-default-checked-mul c = search rules
+returns-in_default-checked_mul c = search rules
 
-pub returns-then-product-gt-MOST-PRODUCT : goal.returns-then-product-gt-MOST-PRODUCT
+pub returns-then-product-gt-MOST_PRODUCT : goal.returns-then-product-gt-MOST_PRODUCT
 unfolding declined
-returns-then-product-gt-MOST-PRODUCT c = search rules
+returns-then-product-gt-MOST_PRODUCT c = search rules
 
 pub returns : goal.returns
 unfolding declined

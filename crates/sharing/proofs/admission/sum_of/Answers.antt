@@ -6,8 +6,8 @@ use Rattle.sharing.specs.Questions.{any_above}
 use Rattle.sharing.specs.Claims.{above_at, above_past}
 use Rattle.sharing.proofs.admission.sum_of.Goals as goal
 
-pub returns-then-claim-gt-MOST-CLAIMED : goal.returns-then-claim-gt-MOST-CLAIMED
-returns-then-claim-gt-MOST-CLAIMED c =
+pub returns-then-claim-gt-MOST_CLAIMED : goal.returns-then-claim-gt-MOST_CLAIMED
+returns-then-claim-gt-MOST_CLAIMED c =
     sym (cond-true _ _ _ (sym c.loop-claim.invariant.2 ∙ above_at 300000000000 c.args.claims.now c.loop-claim.claim-index (omega arith) (omega arith)))
 
 pub loop-claim-preserved : goal.loop-claim-preserved

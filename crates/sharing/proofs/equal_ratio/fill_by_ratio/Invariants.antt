@@ -4,6 +4,6 @@ use Rattle.sharing.proofs.equal_ratio.fill_by_ratio.Given as goal
 
 abbrev pub invariant-loop-i : goal.invariant-loop-i
 invariant-loop-i l =
-    (l.so-far + sum (drop l.i l.claims) ≡ sum l.claims)
-    × (l.given ≡ running_floor (sum l.claims) l.total l.so-far)
-    × (take l.i l.parts ++ ratio_from (sum l.claims) l.total l.so-far (drop l.i l.claims) ≡ ratio_from (sum l.claims) l.total 0 l.claims)
+    (l.so_far + sum (drop l.i l.claims) ≡ sum l.claims)
+    × (l.given ≡ running_floor (sum l.claims) l.total l.so_far)
+    × (take l.i l.parts ++ ratio_from (sum l.claims) l.total l.so_far (drop l.i l.claims) ≡ ratio_from (sum l.claims) l.total 0 l.claims)

@@ -5,8 +5,8 @@ use Rattle.sharing.specs.Rules.{turn_of}
 use Rattle.sharing.specs.Order.{order_more, order_all}
 use Rattle.sharing.proofs.in_order.fill_in_order.Goals as goal
 
-pub overflow-sub-rest : goal.overflow-sub-rest
-overflow-sub-rest c = omega (arith, sum_by-drop_more (λ x. x) c.args.claims.now c.loop-i.i 0 c.loop-i-test.true)
+pub overflow_sub-rest : goal.overflow_sub-rest
+overflow_sub-rest c = omega (arith, sum_by-drop_more (λ x. x) c.args.claims.now c.loop-i.i 0 c.loop-i-test.true)
 
 pub loop-i-preserved : goal.loop-i-preserved
 loop-i-preserved c =

@@ -6,9 +6,9 @@ use Rattle.book.proofs.account.Account.move_side.Goals as goal
 
 pub unwrap-self-requires : goal.unwrap-self-requires
 unwrap-self-requires c =
-    grains_held c.checked-add.result (c.args.self.now.side.count +ℤ c.args.amount.count) c.checked-add.ensures (omega (arith, ints, c.requires.side, c.requires.amount))
+    grains_held c.checked_add.result (c.args.self.now.side.count +ℤ c.args.amount.count) c.checked_add.ensures (omega (arith, ints, c.requires.side, c.requires.amount))
 
 pub returns : goal.returns
 returns c =
     moved_is c.args.self.now c.unwrap-self.result _
-    (grains_value c.checked-add.result (c.args.self.now.side.count +ℤ c.args.amount.count) c.unwrap-self.result c.checked-add.ensures (omega (arith, ints, c.requires.side, c.requires.amount)) c.unwrap-self.ensures)
+    (grains_value c.checked_add.result (c.args.self.now.side.count +ℤ c.args.amount.count) c.unwrap-self.result c.checked_add.ensures (omega (arith, ints, c.requires.side, c.requires.amount)) c.unwrap-self.ensures)

@@ -3,7 +3,7 @@ use Rattle.std.proofs.lemmas.List.{at_drop_all, append-nil, length-take-le}
 use Rattle.book.specs.Accounts.{metered_claims, metered_kwh}
 use Rattle.book.proofs.AccountLoops.{claim_hit, claim_miss, claim_step}
 use Rattle.book.proofs.accounts.AccountTable.claims.Goals as goal
-use Rattle.book.proofs.accounts.AccountTable.claims.Goals.{then-is-some, else-is-some}
+use Rattle.book.proofs.accounts.AccountTable.claims.Goals.{then-is_some, else-is_some}
 
 pub loop-account-preserved : goal.loop-account-preserved
 loop-account-preserved c =
@@ -11,19 +11,19 @@ loop-account-preserved c =
     let xs = c.args.self.now.rows in
     let i = c.loop-account.invariant in
     let here : c.loop-account.account-index < length xs = omega (arith, l, c.loop-account-test.true) in
-    let long : length c.if-is-some.out ≡ 24 = c.if-is-some.auto.out ∙ i.1 in
-    elim c.if-is-some.branch [
-      | then-is-some w ↦
-          let hit = claim_hit xs c.loop-account.account-index _ here (sym w.if-is-some.ensures) in (
+    let long : length c.if-is_some.out ≡ 24 = c.if-is_some.auto.out ∙ i.1 in
+    elim c.if-is_some.branch [
+      | then-is_some w ↦
+          let hit = claim_hit xs c.loop-account.account-index _ here (sym w.if-is_some.ensures) in (
             omega (arith, w.n-is, i.0),
             long,
-            claim_step c.loop-account.out c.if-is-some.out c.loop-account.n c.if-is-some.n w.metered-or-zero.result _ _ _ (omega (arith, i.0, i.1, c.loop-account-test.true)) w.n-is w.out-is w.metered-or-zero.ensures (ap (λ r. take c.loop-account.n c.loop-account.out ++ r) (sym hit) ∙ i.2),
+            claim_step c.loop-account.out c.if-is_some.out c.loop-account.n c.if-is_some.n w.metered_or_zero.result _ _ _ (omega (arith, i.0, i.1, c.loop-account-test.true)) w.n-is w.out-is w.metered_or_zero.ensures (ap (λ r. take c.loop-account.n c.loop-account.out ++ r) (sym hit) ∙ i.2),
           )
-      | else-is-some w ↦
-          let miss = claim_miss xs c.loop-account.account-index _ here (sym w.if-is-some.ensures) in (
+      | else-is_some w ↦
+          let miss = claim_miss xs c.loop-account.account-index _ here (sym w.if-is_some.ensures) in (
             omega (arith, w.n-is, i.0),
             long,
-            ap (λ k. take k c.if-is-some.out ++ metered_claims (drop (c.loop-account.account-index + 1) xs)) w.n-is ∙ ap (λ o. take c.loop-account.n o ++ metered_claims (drop (c.loop-account.account-index + 1) xs)) w.out-is ∙ ap (λ r. take c.loop-account.n c.loop-account.out ++ r) (sym miss) ∙ i.2,
+            ap (λ k. take k c.if-is_some.out ++ metered_claims (drop (c.loop-account.account-index + 1) xs)) w.n-is ∙ ap (λ o. take c.loop-account.n o ++ metered_claims (drop (c.loop-account.account-index + 1) xs)) w.out-is ∙ ap (λ r. take c.loop-account.n c.loop-account.out ++ r) (sym miss) ∙ i.2,
           )
     ]
 

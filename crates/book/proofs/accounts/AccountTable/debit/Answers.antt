@@ -5,7 +5,7 @@ use Rattle.book.specs.declared.accounts.AccountTable.{AccountTable}
 use Rattle.book.specs.Accounts.{metered_claims, debited, blank, side_moved}
 use Rattle.book.proofs.AccountLoops.{claim_hit, claim_miss, debit_read, debit_rest, debit_hit, debit_miss}
 use Rattle.book.proofs.accounts.AccountTable.debit.Goals as goal
-use Rattle.book.proofs.accounts.AccountTable.debit.Goals.{then-is-some, else-is-some}
+use Rattle.book.proofs.accounts.AccountTable.debit.Goals.{then-is_some, else-is_some}
 
 pub bounds-parts-n : goal.bounds-parts-n
 bounds-parts-n c =
@@ -14,11 +14,11 @@ bounds-parts-n c =
     let hx : c.loop-i.i < length xs = omega (arith, c.args.self.now.all, c.loop-i-test.true) in
     let hy : c.loop-i.i < length ys = omega (arith, c.loop-i.self.all, c.loop-i-test.true) in
     let read = debit_read xs ys c.args.parts.now c.loop-i.i c.loop-i.n blank hx hy c.loop-i.invariant.0 in
-    let hit = ap length (claim_hit xs c.loop-i.i blank hx (ap (λ a. is_some a.enrolment) (sym read) ∙ sym c.if-is-some.ensures)) in
+    let hit = ap length (claim_hit xs c.loop-i.i blank hx (ap (λ a. is_some a.enrolment) (sym read) ∙ sym c.if-is_some.ensures)) in
     omega (arith, hit, c.loop-i.invariant.1, c.requires.enough)
 
-pub move-side-requires : goal.move-side-requires
-move-side-requires c =
+pub move_side-requires : goal.move_side-requires
+move_side-requires c =
     let xs = c.args.self.now.rows in
     let ys = c.loop-i.self.rows in
     let hx : c.loop-i.i < length xs = omega (arith, c.args.self.now.all, c.loop-i-test.true) in
@@ -38,22 +38,22 @@ loop-i-preserved c =
     let hy : i < length ys = omega (arith, c.loop-i.self.all, c.loop-i-test.true) in
     let read = debit_read xs ys ps i n blank hx hy v.0 in
     let rest = debit_rest xs ys ps i n blank hx hy v.0 in
-    elim c.if-is-some.branch [
-      | then-is-some w ↦
-          let on = sym w.if-is-some.ensures in
+    elim c.if-is_some.branch [
+      | then-is_some w ↦
+          let on = sym w.if-is_some.ensures in
           let rows = ap (λ (s : AccountTable). s.rows) w.self-is in
           let hit = ap length (claim_hit xs i blank hx (ap (λ a. is_some a.enrolment) (sym read) ∙ on)) in (
-            ap (drop (i + 1)) rows ∙ drop-set-lt (i + 1) ys i w.move-side.new.self (omega arith) ∙ rest,
+            ap (drop (i + 1)) rows ∙ drop-set-lt (i + 1) ys i w.move_side.new.self (omega arith) ∙ rest,
             omega (arith, hit, v.1, w.n-is),
-            ap (λ k. take (i + 1) c.if-is-some.self.rows ++ debited (drop (i + 1) xs) (drop k ps)) w.n-is ∙ ap (λ l. take (i + 1) l ++ debited (drop (i + 1) xs) (drop (n + 1) ps)) rows ∙ debit_hit xs ys ps i n blank hx hy v.0 w.move-side.new.self _ on (w.move-side.ensures ∙ ap (λ z. side_moved z (get_or ys i blank)) w.debit.ensures) v.2,
+            ap (λ k. take (i + 1) c.if-is_some.self.rows ++ debited (drop (i + 1) xs) (drop k ps)) w.n-is ∙ ap (λ l. take (i + 1) l ++ debited (drop (i + 1) xs) (drop (n + 1) ps)) rows ∙ debit_hit xs ys ps i n blank hx hy v.0 w.move_side.new.self _ on (w.move_side.ensures ∙ ap (λ z. side_moved z (get_or ys i blank)) w.debit.ensures) v.2,
           )
-      | else-is-some w ↦
-          let off = sym w.if-is-some.ensures in
+      | else-is_some w ↦
+          let off = sym w.if-is_some.ensures in
           let rows = ap (λ (s : AccountTable). s.rows) w.self-is in
           let miss = ap length (claim_miss xs i blank hx (ap (λ a. is_some a.enrolment) (sym read) ∙ off)) in (
             ap (drop (i + 1)) rows ∙ rest,
             omega (arith, miss, v.1, w.n-is),
-            ap (λ k. take (i + 1) c.if-is-some.self.rows ++ debited (drop (i + 1) xs) (drop k ps)) w.n-is ∙ ap (λ l. take (i + 1) l ++ debited (drop (i + 1) xs) (drop n ps)) rows ∙ debit_miss xs ys ps i n blank hx hy v.0 _ off v.2,
+            ap (λ k. take (i + 1) c.if-is_some.self.rows ++ debited (drop (i + 1) xs) (drop k ps)) w.n-is ∙ ap (λ l. take (i + 1) l ++ debited (drop (i + 1) xs) (drop n ps)) rows ∙ debit_miss xs ys ps i n blank hx hy v.0 _ off v.2,
           )
     ]
 

@@ -8,15 +8,15 @@ use Rattle.book.proofs.Props.{sound_of, kept}
 use Rattle.book.proofs.Tables.{passed}
 use Rattle.book.proofs.book.Book.amend.Goals as goal
 
-pub set-energy-requires : goal.set-energy-requires
-set-energy-requires g c =
+pub set_energy-requires : goal.set_energy-requires
+set_energy-requires g c =
     let f = ledger_of g.R.Share.shares c.args.self.now in
-    let t = passed (conditions f (Amend c.args.number c.args.energy)) (sym c.in-ok-may-amend.ensures) in
+    let t = passed (conditions f (Amend c.args.number c.args.energy)) (sym c.in_ok-may_amend.ensures) in
     record { held = not-false _ t.1.0; rises = (sound_of f c.args.self.now.sound).rises }
 
-pub invariant-of-self : goal.invariant-of-self
-invariant-of-self g c =
+pub invariant_of-self : goal.invariant_of-self
+invariant_of-self g c =
     let b = c.args.self.now in
     let f = ledger_of g.R.Share.shares b in
-    let sound = amend_sound f c.args.number c.args.energy (g.met.R.Share.fair b.rule) (sound_of f b.sound) (sym c.in-ok-may-amend.ensures) in
-    (kept (accepted f (Amend c.args.number c.args.energy)) _ _ _ _ sound refl refl c.set-energy.ensures refl, tt)
+    let sound = amend_sound f c.args.number c.args.energy (g.met.R.Share.fair b.rule) (sound_of f b.sound) (sym c.in_ok-may_amend.ensures) in
+    record { sound = kept (accepted f (Amend c.args.number c.args.energy)) _ _ _ _ sound refl refl c.set_energy.ensures refl }

@@ -13,34 +13,34 @@ use Rattle.book.proofs.book.Book.compensate.Goals as goal
 pub compensated-next-requires : goal.compensated-next-requires
 compensated-next-requires g c =
     let f = ledger_of g.R.Share.shares c.args.self.now in
-    let told = c.in-ok-fen.ensures in
+    let told = c.in_ok-fen.ensures in
     record { plant = told.3; fen = told.2; claims = refl; parts = refl; some = generated f c.args.plant c.args.amount told.0 }
 
 pub returns-then-any : goal.returns-then-any
 returns-then-any g c =
     let f = ledger_of g.R.Share.shares c.args.self.now in
-    let told = c.in-ok-fen.ensures in
+    let told = c.in_ok-fen.ensures in
     let next : c.compensated-next.result.rows ≡ compensated_in f c.args.plant c.args.amount = c.compensated-next.ensures ∙ ap (λ n. compensated f.shares c.args.plant n f.accounts) told.1 in
-    let past : any_account is_past_side_limit (compensated_in f c.args.plant c.args.amount) ≡ true = ap (any_account is_past_side_limit) (sym (c.as-slice.ensures ∙ next)) ∙ sym c.if-any.ensures in
+    let past : any_account is_past_side_limit (compensated_in f c.args.plant c.args.amount) ≡ true = ap (any_account is_past_side_limit) (sym (c.as_slice.ensures ∙ next)) ∙ sym c.if-any.ensures in
     makes_declined f (Compensate c.args.plant c.args.amount) _ (compensation_decides f c.args.plant c.args.amount true told.0 past)
 
-pub invariant-of-self : goal.invariant-of-self
-invariant-of-self g c =
+pub invariant_of-self : goal.invariant_of-self
+invariant_of-self g c =
     let b = c.args.self.now in
     let f = ledger_of g.R.Share.shares b in
-    let told = c.in-ok-fen.ensures in
+    let told = c.in_ok-fen.ensures in
     let next : c.compensated-next.result.rows ≡ compensated_in f c.args.plant c.args.amount = c.compensated-next.ensures ∙ ap (λ n. compensated f.shares c.args.plant n f.accounts) told.1 in
-    let past : any_account is_past_side_limit (compensated_in f c.args.plant c.args.amount) ≡ false = ap (any_account is_past_side_limit) (sym (c.as-slice.ensures ∙ next)) ∙ sym c.if-any.ensures in
+    let past : any_account is_past_side_limit (compensated_in f c.args.plant c.args.amount) ≡ false = ap (any_account is_past_side_limit) (sym (c.as_slice.ensures ∙ next)) ∙ sym c.if-any.ensures in
     let none : declined f (Compensate c.args.plant c.args.amount) ≡ None = compensation_decides f c.args.plant c.args.amount false told.0 past in
     let sound = compensate_sound f c.args.plant c.args.amount (g.met.R.Share.fair b.rule) (sound_of f b.sound) none in
-    (kept (accepted f (Compensate c.args.plant c.args.amount)) _ _ _ _ sound refl refl refl next, tt)
+    record { sound = kept (accepted f (Compensate c.args.plant c.args.amount)) _ _ _ _ sound refl refl refl next }
 
 pub returns : goal.returns
 returns g c =
     let b = c.args.self.now in
     let f = ledger_of g.R.Share.shares b in
-    let told = c.in-ok-fen.ensures in
+    let told = c.in_ok-fen.ensures in
     let next : c.compensated-next.result.rows ≡ compensated_in f c.args.plant c.args.amount = c.compensated-next.ensures ∙ ap (λ n. compensated f.shares c.args.plant n f.accounts) told.1 in
-    let past : any_account is_past_side_limit (compensated_in f c.args.plant c.args.amount) ≡ false = ap (any_account is_past_side_limit) (sym (c.as-slice.ensures ∙ next)) ∙ sym c.if-any.ensures in
+    let past : any_account is_past_side_limit (compensated_in f c.args.plant c.args.amount) ≡ false = ap (any_account is_past_side_limit) (sym (c.as_slice.ensures ∙ next)) ∙ sym c.if-any.ensures in
     let none : declined f (Compensate c.args.plant c.args.amount) ≡ None = compensation_decides f c.args.plant c.args.amount false told.0 past in
     makes_accepted f (Compensate c.args.plant c.args.amount) _ _ none (same_accounts f _ _ next) refl

@@ -11,15 +11,16 @@ use Rattle.book.proofs.book.Book.issue.Goals as goal
 pub issue-requires : goal.issue-requires
 issue-requires g c =
     let f = ledger_of g.R.Share.shares c.args.self.now in
-    let ok = c.in-ok-may-issue.ensures.plant in
+    let ok = c.in_ok-may_issue.ensures.plant in
     record { plant = ok; net = c.net-net.ensures.bound; carry = (fair_of f c.args.plant (sound_of f c.args.self.now.sound) ok).carry }
 
-pub invariant-of-self : goal.invariant-of-self
-invariant-of-self g c =
+pub invariant_of-self : goal.invariant_of-self
+invariant_of-self g c =
     let b = c.args.self.now in
     let f = ledger_of g.R.Share.shares b in
-    let sound = issue_sound f c.args.plant (g.met.R.Share.fair b.rule) (sound_of f b.sound) (sym c.in-ok-may-issue.ensures.answer) in (
-      kept (accepted f (Issue c.args.plant)) _ _ _ _ sound refl refl refl
-          (c.issue.ensures.left ∙ ap (λ z. with_account c.args.plant (issued_at z) f.accounts) c.net-net.ensures.value),
-      tt,
-    )
+    let sound = issue_sound f c.args.plant (g.met.R.Share.fair b.rule) (sound_of f b.sound) (sym c.in_ok-may_issue.ensures.answer) in
+    record {
+      sound =
+          kept (accepted f (Issue c.args.plant)) _ _ _ _ sound refl refl refl
+          (c.issue.ensures.left ∙ ap (λ z. with_account c.args.plant (issued_at z) f.accounts) c.net-net.ensures.value);
+    }

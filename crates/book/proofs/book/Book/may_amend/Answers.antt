@@ -9,20 +9,20 @@ at-requires g c =
     let f = ledger_of g.R.Share.shares c.args.self.now in
     row_plant f c.args.number c.in-Some.row (sound_of f c.args.self.now.sound) (sym c.in-Some.ensures)
 
-pub plant-sum-requires : goal.plant-sum-requires
-plant-sum-requires g c =
+pub plant_sum-requires : goal.plant_sum-requires
+plant_sum-requires g c =
     let f = ledger_of g.R.Share.shares c.args.self.now in
     (sound_of f c.args.self.now.sound).sums c.in-Some.row.plant
 
-pub overflow-sub-rest : goal.overflow-sub-rest
-overflow-sub-rest g c =
+pub overflow_sub-rest : goal.overflow_sub-rest
+overflow_sub-rest g c =
     let f = ledger_of g.R.Share.shares c.args.self.now in
     let s = sound_of f c.args.self.now.sound in
     let low = owner_le c.args.number f.rows c.in-Some.row s.rises (sym c.in-Some.ensures) in
     search rules
 
-pub overflow-add-rest : goal.overflow-add-rest
-overflow-add-rest g c =
+pub overflow_add-rest : goal.overflow_add-rest
+overflow_add-rest g c =
     let f = ledger_of g.R.Share.shares c.args.self.now in
     let s = sound_of f c.args.self.now.sound in
     let most = s.sums c.in-Some.row.plant in

@@ -11,4 +11,4 @@ returns g c =
     let f = ledger_of g.R.Share.shares b in
     let p = c.args.plant in
     let most = net_bound f p (plant_parts p c.requires).1 (g.met.R.Share.fair b.rule) (sound_of f b.sound) in
-    record { value = c.net-in-room.ensures; bound = omega (arith, ap nat_abs c.net-in-room.ensures, most) }
+    record { value = c.net_in_room.ensures; bound = omega (arith, ap nat_abs c.net_in_room.ensures, most) }

@@ -11,26 +11,26 @@ pub gather-n-requires : goal.gather-n-requires
 gather-n-requires g c =
     let f = ledger_of g.R.Share.shares c.args.self.now in omega (arith, (sound_of f c.args.self.now.sound).few, c.requires.contracts)
 
-pub slice-bounds-energies-end : goal.slice-bounds-energies-end
-slice-bounds-energies-end g c =
+pub slice_bounds-energies-end : goal.slice_bounds-energies-end
+slice_bounds-energies-end g c =
     let f = ledger_of g.R.Share.shares c.args.self.now in
     let most : c.gather-n.result ≤ length c.args.energies.now = omega (arith, (sound_of f c.args.self.now.sound).few, c.gather-n.ensures.bound, c.requires.energies) in
     search rules
 
-pub slice-bounds-amounts-end : goal.slice-bounds-amounts-end
-slice-bounds-amounts-end g c =
+pub slice_bounds-amounts-end : goal.slice_bounds-amounts-end
+slice_bounds-amounts-end g c =
     let f = ledger_of g.R.Share.shares c.args.self.now in
     let most : c.gather-n.result ≤ length c.args.amounts.now = omega (arith, (sound_of f c.args.self.now.sound).few, c.gather-n.ensures.bound, c.requires.amounts) in
     search rules
 
-pub slice-bounds-settle-contracts-end : goal.slice-bounds-settle-contracts-end
-slice-bounds-settle-contracts-end g c =
+pub slice_bounds-settle_contracts-end : goal.slice_bounds-settle_contracts-end
+slice_bounds-settle_contracts-end g c =
     let f = ledger_of g.R.Share.shares c.args.self.now in
     let most : c.gather-n.result ≤ length c.gather-n.new.out = omega (arith, (sound_of f c.args.self.now.sound).few, c.gather-n.ensures.bound, c.gather-n.auto.out, c.requires.contracts) in
     search rules
 
-pub settle-contracts-requires : goal.settle-contracts-requires
-settle-contracts-requires g c =
+pub settle_contracts-requires : goal.settle_contracts-requires
+settle_contracts-requires g c =
     let f = ledger_of g.R.Share.shares c.args.self.now in
     let k = c.gather-n.result in
     let few = (sound_of f c.args.self.now.sound).few in
@@ -44,4 +44,4 @@ settle-contracts-requires g c =
 
 pub returns : goal.returns
 unfolding net_of_plant
-returns g c = ap (λ (s : Settlement). s.net.count) c.settle-contracts.ensures.answer
+returns g c = ap (λ (s : Settlement). s.net.count) c.settle_contracts.ensures.answer

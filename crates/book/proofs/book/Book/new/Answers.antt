@@ -5,7 +5,7 @@ use Rattle.book.proofs.Kept.{first_sound}
 use Rattle.book.proofs.Props.{kept}
 use Rattle.book.proofs.book.Book.new.Goals as goal
 
-pub invariant-of-result : goal.invariant-of-result
-invariant-of-result g c =
+pub invariant_of-result : goal.invariant_of-result
+invariant_of-result g c =
     let shares = g.R.Share.shares c.args.rule in
-    (kept (opened 1 (micro 0) shares) _ _ _ _ (first_sound shares) refl (ap micro c.from-micro-yuan.ensures) c.in-ok-contracts.ensures c.new-2.ensures, tt)
+    record { sound = kept (opened 1 (micro 0) shares) _ _ _ _ (first_sound shares) refl (ap micro c.from_micro_yuan.ensures) c.in_ok-contracts.ensures c.new-2.ensures }

@@ -14,10 +14,10 @@ use Rattle.book.proofs.Props.{sound_of}
 use Rattle.book.proofs.Tables.{plant_parts}
 use Rattle.book.proofs.book.Book.settle.Goals as goal
 
-pub settle-in-room-requires : goal.settle-in-room-requires
-settle-in-room-requires g c =
+pub settle_in_room-requires : goal.settle_in_room-requires
+settle_in_room-requires g c =
     let f = ledger_of g.R.Share.shares c.args.self.now in
-    let known = settle_facts f c.args.plant (length c.args.energies.now) (length c.args.amounts.now) (sym c.in-ok-may-settle.ensures.answer) in
+    let known = settle_facts f c.args.plant (length c.args.energies.now) (length c.args.amounts.now) (sym c.in_ok-may_settle.ensures.answer) in
     record { plant = known.0; contracts = refl; energies = known.1; amounts = known.2 }
 
 pub returns : goal.returns
@@ -27,13 +27,13 @@ returns g c =
     let p = c.args.plant in
     let es = c.args.energies.now in
     let old = c.args.amounts.now in
-    let none : settle_declined f p (length es) (length old) ≡ None = sym c.in-ok-may-settle.ensures.answer in
+    let none : settle_declined f p (length es) (length old) ≡ None = sym c.in_ok-may_settle.ensures.answer in
     let known = settle_facts f p (length es) (length old) none in
-    let told = c.settle-in-room.ensures in
+    let told = c.settle_in_room.ensures in
     let kept = plant_settles f p (plant_parts p known.0).1 (g.met.R.Share.fair b.rule) (sound_of f b.sound) in
     record {
       answer = ap Ok told.answer ∙ ap (λ w. answered {E = Refusal} w (settlement_of (plant_in f p))) (sym none);
       energies = told.energies ∙ ap (λ w. placed w (settled_energies (plant_in f p)) es) (sym none);
       amounts = told.amounts ∙ ap (λ w. placed w (settled_amounts (plant_in f p)) old) (sym none);
-      settles = subst (λ (s : Settlement). Settles (plant_in f p) c.settle-in-room.new.energies s) (sym told.answer) (subst (λ (l : List Energy). Settles (plant_in f p) l (settlement_of (plant_in f p))) (sym told.energies) kept);
+      settles = subst (λ (s : Settlement). Settles (plant_in f p) c.settle_in_room.new.energies s) (sym told.answer) (subst (λ (l : List Energy). Settles (plant_in f p) l (settlement_of (plant_in f p))) (sym told.energies) kept);
     }

@@ -6,13 +6,13 @@ use Rattle.book.proofs.Kept.{turn_sound}
 use Rattle.book.proofs.Props.{sound_of, kept}
 use Rattle.book.proofs.book.Book.turn.Goals as goal
 
-pub next-month-self-requires : goal.next-month-self-requires
-next-month-self-requires g c =
+pub next_month-self-requires : goal.next_month-self-requires
+next_month-self-requires g c =
     let f = ledger_of g.R.Share.shares c.args.self.now in (sound_of f c.args.self.now.sound).last
 
-pub invariant-of-self : goal.invariant-of-self
-invariant-of-self g c =
+pub invariant_of-self : goal.invariant_of-self
+invariant_of-self g c =
     let b = c.args.self.now in
     let f = ledger_of g.R.Share.shares b in
-    let sound = turn_sound f c.args.residential (g.met.R.Share.fair b.rule) (sound_of f b.sound) (sym c.in-ok-may-turn.ensures) in
-    (kept (accepted f (Turn c.args.residential)) _ _ _ _ sound c.next-month-self.ensures refl c.clear.ensures c.turn.ensures, tt)
+    let sound = turn_sound f c.args.residential (g.met.R.Share.fair b.rule) (sound_of f b.sound) (sym c.in_ok-may_turn.ensures) in
+    record { sound = kept (accepted f (Turn c.args.residential)) _ _ _ _ sound c.next_month-self.ensures refl c.clear.ensures c.turn.ensures }

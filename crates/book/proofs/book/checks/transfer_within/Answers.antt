@@ -2,10 +2,10 @@ use Rattle.std.proofs.Common.{rules}
 use Rattle.book.specs.Calls.{transfer_within}
 use Rattle.book.proofs.book.checks.transfer_within.Goals as goal
 
-pub returns-then-within-limit : goal.returns-then-within-limit
+pub returns-then-within_limit : goal.returns-then-within_limit
 unfolding transfer_within
-returns-then-within-limit c = search rules
+returns-then-within_limit c = search rules
 
-pub returns-else-within-limit : goal.returns-else-within-limit
+pub returns-else-within_limit : goal.returns-else-within_limit
 unfolding transfer_within
-returns-else-within-limit c = search rules
+returns-else-within_limit c = search rules

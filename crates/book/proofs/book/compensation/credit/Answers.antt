@@ -5,9 +5,9 @@ use Rattle.book.proofs.book.compensation.credit.Goals as goal
 
 pub unwrap-requires : goal.unwrap-requires
 unwrap-requires c =
-    grains_held c.grains.result (c.from-count.result.count *ℤ pos 1000000) c.grains.ensures (omega (arith, ints, c.from-count.ensures, c.requires))
+    grains_held c.grains.result (c.from_count.result.count *ℤ pos 1000000) c.grains.ensures (omega (arith, ints, c.from_count.ensures, c.requires))
 
 pub returns : goal.returns
 returns c =
-    let value = grains_value c.grains.result (c.from-count.result.count *ℤ pos 1000000) c.unwrap.result c.grains.ensures (omega (arith, ints, c.from-count.ensures, c.requires)) c.unwrap.ensures in
-    omega (arith, ints, value, c.from-count.ensures, c.requires)
+    let value = grains_value c.grains.result (c.from_count.result.count *ℤ pos 1000000) c.unwrap.result c.grains.ensures (omega (arith, ints, c.from_count.ensures, c.requires)) c.unwrap.ensures in
+    omega (arith, ints, value, c.from_count.ensures, c.requires)

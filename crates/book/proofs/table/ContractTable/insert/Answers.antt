@@ -6,8 +6,8 @@ pub insert-requires : goal.insert-requires
 insert-requires c =
     let p = place_within c.args.row.number c.args.self.now.rows.items in omega (arith, p, c.place-i.ensures, c.args.self.now.rows.ok.0)
 
-pub invariant-of-self : goal.invariant-of-self
-invariant-of-self c = (omega (arith, c.args.self.now.room, c.insert.ensures.capacity), tt)
+pub invariant_of-self : goal.invariant_of-self
+invariant_of-self c = record { room = omega (arith, c.args.self.now.room, c.insert.ensures.capacity) }
 
 pub returns : goal.returns
 returns c =

@@ -2,8 +2,8 @@ use Rattle.std.proofs.Common.{◌*◌, ◌^◌, ◌≤◌, pos, ap, mul-le-mul, 
 use Rattle.units.proofs.Fitting.{some_as, none_as}
 use Rattle.units.proofs.money.Grains.from_product.Goals as goal
 
-pub overflow-mul-hundredths : goal.overflow-mul-hundredths
-overflow-mul-hundredths c =
+pub overflow_mul-hundredths : goal.overflow_mul-hundredths
+overflow_mul-hundredths c =
     let few : c.from.result ≤ 2 ^ 32 = omega arith in
     let small : c.args.hundredths * c.from.result ≤ 2 ^ 71 * 2 ^ 32 = mul-le-mul c.requires few in
     omega arith

@@ -4,7 +4,6 @@
 use anyhow::anyhow;
 use sheet::MOST_BYTES;
 use statement::statement;
-use std::io;
 use std::io::Read;
 
 fn main(rt: HostRuntime) -> anyhow::Result<()> {
@@ -29,14 +28,6 @@ fn read_sheet(rt: &HostRuntime) -> anyhow::Result<Vec<u8>> {
         .read_to_end(&mut sheet)
     {
         Ok(_) => Ok(sheet),
-        Err(error) => Err(unread(rt, error)),
-    }
-}
-
-// Why standard input was not read. Where not even the message finds memory, that is why.
-fn unread(rt: &HostRuntime, error: io::Error) -> anyhow::Error {
-    match format!(in rt.alloc(); "standard input cannot be read: {error}") {
-        Ok(message) => message.into(),
-        Err(_) => "there is no memory for standard input".into(),
+        Err(error) => Err(anyhow!("standard input cannot be read: {error}")),
     }
 }

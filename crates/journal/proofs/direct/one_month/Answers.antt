@@ -19,13 +19,13 @@ returns g c =
     let b1 = ledger_of shares c.enrol-enrolled.new.self in
     let b2 = ledger_of shares c.meter-metered.new.self in
     let b3 = ledger_of shares c.issue-issued.new.self in
-    let opens = c.in-ok-open.ensures in
+    let opens = c.in_ok-open.ensures in
     let m1 : Makes b0 (Enrol p (class_number enrolment.class) enrolment.approved) b1 c.answered.result =
     subst (λ a. Makes b0 (Enrol p (class_number enrolment.class) enrolment.approved) b1 a) (sym c.answered.ensures) (subst (λ k. Makes b0 (Enrol p k enrolment.approved) b1 (told c.enrol-enrolled.result)) c.number.ensures c.enrol-enrolled.ensures) in
     let m2 : Makes b1 (Meter p reading.metered reading.commissioning) b2 c.answered-2.result =
     subst (λ a. Makes b1 (Meter p reading.metered reading.commissioning) b2 a) (sym c.answered-2.ensures) c.meter-metered.ensures in
-    let m3 : Makes b2 (Issue p) b3 c.answered-paid.result = subst (λ a. Makes b2 (Issue p) b3 a) (sym c.answered-paid.ensures) c.issue-issued.ensures in
-    let answers = c.answered.result ∷ c.answered-2.result ∷ c.answered-paid.result ∷ [] in
+    let m3 : Makes b2 (Issue p) b3 c.answered_paid.result = subst (λ a. Makes b2 (Issue p) b3 a) (sym c.answered_paid.ensures) c.issue-issued.ensures in
+    let answers = c.answered.result ∷ c.answered-2.result ∷ c.answered_paid.result ∷ [] in
     record {
       answer = opens.answer;
       left = ran (shares rule) (g.met.R.Share.fair rule) c.args.month c.args.residential (ledger_of shares c.args.book.now) b0 b3 (first_calls p enrolment reading) answers (sym opens.answer) opens.after (then m1 (then m2 (then m3 none)));

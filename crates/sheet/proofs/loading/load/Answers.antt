@@ -9,31 +9,31 @@ use Rattle.sheet.proofs.Whole.{all_bytes, header_is, header_stops, loaded}
 use Rattle.sheet.proofs.Writing.{unambiguous}
 use Rattle.sheet.proofs.loading.load.Goals as goal
 
-pub returns-in-err-header : goal.returns-in-err-header
-returns-in-err-header g c =
-    let e = c.in-err-header.field-0.0 in
+pub returns-in_err-header : goal.returns-in_err-header
+returns-in_err-header g c =
+    let e = c.in_err-header.field-0.0 in
     let figures = ledger_of g.R.Share.shares c.args.book.now in
     record {
-      0 = header_stops (g.R.Share.shares c.args.rule) c.args.sheet.now figures figures e c.from-residual.result c.in-err-header.ensures (handed_on c.from-residual.result e c.from-residual.ensures.1) refl;
+      loaded = header_stops (g.R.Share.shares c.args.rule) c.args.sheet.now figures figures e c.from_residual.result c.in_err-header.ensures (handed_on c.from_residual.result e c.from_residual.ensures.1) refl;
       unambiguous = unambiguous;
     }
 
-pub returns-in-err-opened : goal.returns-in-err-opened
-returns-in-err-opened g c =
+pub returns-in_err-opened : goal.returns-in_err-opened
+returns-in_err-opened g c =
     let shares = g.R.Share.shares in
     let rule = c.args.rule in
     let bytes = c.args.sheet.now in
-    let header = c.in-ok-header.header in
-    let read = c.in-ok-header.ensures in
+    let header = c.in_ok-header.header in
+    let read = c.in_ok-header.ensures in
     let before = ledger_of shares c.args.book.now in
-    let e = c.in-err-opened.field-0.0 in
-    let r = c.from-residual-in-err-opened.result in
+    let e = c.in_err-opened.field-0.0 in
+    let r = c.from_residual-in_err-opened.result in
     let why = open_declined header.month header.residential in
-    let told : book_fault 0 0 why ≡ Some e = ap (book_fault 0 0) (sym c.open.ensures.answer) ∙ was_some (book_fault 0 0 (declined_by c.open.result)) e tt c.in-err-opened.ensures in
+    let told : book_fault 0 0 why ≡ Some e = ap (book_fault 0 0) (sym c.open.ensures.answer) ∙ was_some (book_fault 0 0 (declined_by c.open.result)) e tt c.in_err-opened.ensures in
     let known = fault_of_lem 0 0 why e told in
     let same = c.open.ensures.after ∙ ap (λ w. placed w (opened header.month header.residential (shares rule)) before) known.1 in
     record {
-      0 = header_stops (shares rule) bytes before (ledger_of shares c.open.new.self) e r (header_is bytes header.month header.residential read.0 read.1 read.3 read.4 ∙ told) (handed_on r e c.from-residual-in-err-opened.ensures.1) same;
+      loaded = header_stops (shares rule) bytes before (ledger_of shares c.open.new.self) e r (header_is bytes header.month header.residential read.0 read.1 read.3 read.4 ∙ told) (handed_on r e c.from_residual-in_err-opened.ensures.1) same;
       unambiguous = unambiguous;
     }
 
@@ -42,10 +42,10 @@ returns g c =
     let shares = g.R.Share.shares in
     let rule = c.args.rule in
     let bytes = c.args.sheet.now in
-    let header = c.in-ok-header.header in
-    let read = c.in-ok-header.ensures in
-    let opens = sym c.open.ensures.answer ∙ no_fault 0 0 (declined_by c.open.result) c.in-ok-opened.ensures in
+    let header = c.in_ok-header.header in
+    let read = c.in_ok-header.ensures in
+    let opens = sym c.open.ensures.answer ∙ no_fault 0 0 (declined_by c.open.result) c.in_ok-opened.ensures in
     record {
-      0 = loaded (shares rule) (g.met.R.Share.fair rule) bytes header.sections header.month header.residential (ledger_of shares c.args.book.now) (ledger_of shares c.open.new.self) (ledger_of shares c.make-sections.new.book) c.make-sections.result (all_bytes bytes c.type-inv.sheet) read.0 read.1 read.2 read.3 read.4 opens c.open.ensures.after c.make-sections.ensures.fault c.make-sections.ensures.left;
+      loaded = loaded (shares rule) (g.met.R.Share.fair rule) bytes header.sections header.month header.residential (ledger_of shares c.args.book.now) (ledger_of shares c.open.new.self) (ledger_of shares c.make_sections.new.book) c.make_sections.result (all_bytes bytes c.type_inv.sheet) read.0 read.1 read.2 read.3 read.4 opens c.open.ensures.after c.make_sections.ensures.fault c.make_sections.ensures.left;
       unambiguous = unambiguous;
     }

@@ -9,10 +9,10 @@ abbrev pub invariant-loop-item : goal.invariant-loop-item
 invariant-loop-item g l =
     let n = length l.heads / head_size l.kind in
     let all = calls_in l.kind n l.heads l.terms in
-    let more = calls_in l.kind (n - l.item) l.heads-left l.terms-left in
+    let more = calls_in l.kind (n - l.item) l.heads_left l.terms_left in
     let start = ledger_of g.R.Share.shares l.initial.book in
     let here = ledger_of g.R.Share.shares l.book in
     (item_fault here l.offset l.item more ≡ item_fault start l.offset 0 all)
     × (left_by here more ≡ left_by start all)
-    × (length l.heads-left ≡ (n - l.item) * head_size l.kind)
-    × (length l.terms-left ≡ (n - l.item) * term_size l.kind)
+    × (length l.heads_left ≡ (n - l.item) * head_size l.kind)
+    × (length l.terms_left ≡ (n - l.item) * term_size l.kind)

@@ -8,36 +8,36 @@ use Rattle.sheet.proofs.Sequence.{fault_of, faulty_section, left_over_lem, left_
 use Rattle.sheet.proofs.Making.{handed_on, was_some}
 use Rattle.sheet.proofs.loading.make_sections.Goals as goal
 
-pub returns-in-err-section : goal.returns-in-err-section
-returns-in-err-section g c =
+pub returns-in_err-section : goal.returns-in_err-section
+returns-in_err-section g c =
     let here = ledger_of g.R.Share.shares c.loop-done.book in
-    let e = c.in-err-section.field-0.0 in
-    let step = faulty_section here c.args.count c.loop-done.-done c.loop-done.offset (drop c.loop-done.offset c.args.sheet.now) e c.loop-done-test.true c.in-err-section.ensures in
+    let e = c.in_err-section.field-0.0 in
+    let step = faulty_section here c.args.count c.loop-done._done c.loop-done.offset (drop c.loop-done.offset c.args.sheet.now) e c.loop-done-test.true c.in_err-section.ensures in
     let inv = c.loop-done.invariant in
     record {
-      fault = handed_on c.from-residual.result e c.from-residual.ensures.1 ∙ ap (λ w. answered w tt) (sym step.0 ∙ inv.0);
+      fault = handed_on c.from_residual.result e c.from_residual.ensures.1 ∙ ap (λ w. answered w tt) (sym step.0 ∙ inv.0);
       left = sym step.1 ∙ inv.1;
     }
 
-pub returns-in-err-make-section : goal.returns-in-err-make-section
-returns-in-err-make-section g c =
+pub returns-in_err-make_section : goal.returns-in_err-make_section
+returns-in_err-make_section g c =
     let bytes = c.args.sheet.now in
     let n = c.args.count in
-    let i = c.loop-done.-done in
+    let i = c.loop-done._done in
     let offset = c.loop-done.offset in
-    let end = c.in-ok-section.end in
-    let s = stretches_of c.in-ok-section.section in
-    let read = c.in-ok-section.ensures in
+    let end = c.in_ok-section.end in
+    let s = stretches_of c.in_ok-section.section in
+    let read = c.in_ok-section.ensures in
     let here = ledger_of g.R.Share.shares c.loop-done.book in
-    let next = ledger_of g.R.Share.shares c.make-section.new.book in
+    let next = ledger_of g.R.Share.shares c.make_section.new.book in
     let more = contents_from (n - (i + 1)) end (drop end bytes) in
     let is = sound_section n i offset end bytes s c.loop-done-test.true read.0 read.1 in
-    let e = c.in-err-make-section.field-0.0 in
-    let fault = was_some (item_fault here s.offset 0 (calls_of s)) e tt c.in-err-make-section.ensures.fault in
-    let step = section_stopped here next s more e fault c.in-err-make-section.ensures.left in
+    let e = c.in_err-make_section.field-0.0 in
+    let fault = was_some (item_fault here s.offset 0 (calls_of s)) e tt c.in_err-make_section.ensures.fault in
+    let step = section_stopped here next s more e fault c.in_err-make_section.ensures.left in
     let inv = c.loop-done.invariant in
     record {
-      fault = handed_on c.from-residual-in-err-make-section.result e c.from-residual-in-err-make-section.ensures.1 ∙ ap (λ w. answered w tt) (sym step.0 ∙ ap (fault_of here) (sym is) ∙ inv.0);
+      fault = handed_on c.from_residual-in_err-make_section.result e c.from_residual-in_err-make_section.ensures.1 ∙ ap (λ w. answered w tt) (sym step.0 ∙ ap (fault_of here) (sym is) ∙ inv.0);
       left = sym step.1 ∙ ap (left_of here) (sym is) ∙ inv.1;
     }
 
@@ -45,17 +45,17 @@ pub loop-done-preserved : goal.loop-done-preserved
 loop-done-preserved g c =
     let bytes = c.args.sheet.now in
     let n = c.args.count in
-    let i = c.loop-done.-done in
+    let i = c.loop-done._done in
     let offset = c.loop-done.offset in
-    let end = c.in-ok-section.end in
-    let s = stretches_of c.in-ok-section.section in
-    let read = c.in-ok-section.ensures in
+    let end = c.in_ok-section.end in
+    let s = stretches_of c.in_ok-section.section in
+    let read = c.in_ok-section.ensures in
     let here = ledger_of g.R.Share.shares c.loop-done.book in
-    let next = ledger_of g.R.Share.shares c.make-section.new.book in
+    let next = ledger_of g.R.Share.shares c.make_section.new.book in
     let more = contents_from (n - (i + 1)) end (drop end bytes) in
     let is = sound_section n i offset end bytes s c.loop-done-test.true read.0 read.1 in
-    let none = was_none (item_fault here s.offset 0 (calls_of s)) tt tt c.in-ok-make-section.ensures.fault in
-    let step = section_made here next s more none c.in-ok-make-section.ensures.left in
+    let none = was_none (item_fault here s.offset 0 (calls_of s)) tt tt c.in_ok-make_section.ensures.fault in
+    let step = section_made here next s more none c.in_ok-make_section.ensures.left in
     let inv = c.loop-done.invariant in
     (sym step.0 ∙ ap (fault_of here) (sym is) ∙ inv.0, sym step.1 ∙ ap (left_of here) (sym is) ∙ inv.1)
 
@@ -64,10 +64,10 @@ returns-then-offset-sheet g c =
     let here = ledger_of g.R.Share.shares c.loop-done.book in
     let offset = c.loop-done.offset in
     let bytes = c.args.sheet.now in
-    let end = over here c.args.count c.loop-done.-done offset (drop offset bytes) c.loop-done-test.false in
+    let end = over here c.args.count c.loop-done._done offset (drop offset bytes) c.loop-done-test.false in
     let inv = c.loop-done.invariant in
     record {
-      fault = ap Err c.sheet-fault.ensures ∙ ap (λ w. answered w tt) (sym (left_over_lem offset bytes c.if-offset-sheet.true) ∙ sym end.0 ∙ inv.0);
+      fault = ap Err c.sheet_fault.ensures ∙ ap (λ w. answered w tt) (sym (left_over_lem offset bytes c.if-offset-sheet.true) ∙ sym end.0 ∙ inv.0);
       left = sym end.1 ∙ inv.1;
     }
 
@@ -76,7 +76,7 @@ returns g c =
     let here = ledger_of g.R.Share.shares c.loop-done.book in
     let offset = c.loop-done.offset in
     let bytes = c.args.sheet.now in
-    let end = over here c.args.count c.loop-done.-done offset (drop offset bytes) c.loop-done-test.false in
+    let end = over here c.args.count c.loop-done._done offset (drop offset bytes) c.loop-done-test.false in
     let inv = c.loop-done.invariant in
     record {
       fault = ap (λ w. answered w tt) (sym (none_left offset bytes c.if-offset-sheet.false) ∙ sym end.0 ∙ inv.0);

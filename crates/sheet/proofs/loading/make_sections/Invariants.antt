@@ -8,7 +8,7 @@ use Rattle.sheet.proofs.loading.make_sections.Given as goal
 abbrev pub invariant-loop-done : goal.invariant-loop-done
 invariant-loop-done g l =
     let all = contents_from l.count 6 (drop 6 l.sheet) in
-    let more = contents_from (l.count - l.-done) l.offset (drop l.offset l.sheet) in
+    let more = contents_from (l.count - l._done) l.offset (drop l.offset l.sheet) in
     let start = ledger_of g.R.Share.shares l.initial.book in
     let here = ledger_of g.R.Share.shares l.book in
     (fault_in here more.sections more.stop ≡ fault_in start all.sections all.stop)

@@ -7,7 +7,7 @@ use Rattle.statement.specs.Statements.{Unissued, line_of, lines_from}
 use Rattle.statement.proofs.Issues.{lines_all, lines_begun, lines_none, lines_some}
 use Rattle.statement.proofs.Unissued.{unissued_after}
 use Rattle.statement.proofs.issuing.issue_all.Goals as goal
-use Rattle.statement.proofs.issuing.issue_all.Goals.{in-Some+in-ok-line+in-ok-plant-line+in-ok-push-str, in-default}
+use Rattle.statement.proofs.issuing.issue_all.Goals.{in-Some+in_ok-line+in_ok-plant_line+in_ok-push_str, in_default}
 
 pub loop-plant-init : goal.loop-plant-init
 loop-plant-init g c = (lines_begun (ledger_of g.R.Share.shares c.args.book.now) (string_bytes c.new-text.result) c.new-text.ensures.bytes, c.requires)
@@ -22,16 +22,16 @@ loop-plant-preserved g c =
     let after = string_bytes c.match-reading.text in
     let inv = c.loop-plant.invariant in
     elim c.match-reading.branch [
-      | in-Some+in-ok-line+in-ok-plant-line+in-ok-push-str w ↦
+      | in-Some+in_ok-line+in_ok-plant_line+in_ok-push_str w ↦
           let r = w.in-Some.reading in
           let read : reading_of here p ≡ Some r = sym c.reading.ensures ∙ w.in-Some.is in
-          let line = string_bytes w.in-ok-plant-line.field-0 in
-          let told : line ≡ plant_text (line_of here p r) = w.in-ok-plant-line.ensures ∙ ap plant_text w.in-ok-line.ensures.line in
-          let longer : after ≡ text ++ line = ap string_bytes w.text-is ∙ w.in-ok-push-str.ensures.bytes ∙ ap (λ l. text ++ l) w.as-str.ensures.value in
-          let issued : next ≡ accepted here (Issue p) = ap (ledger_of shares) w.book-is ∙ w.in-ok-line.ensures.issued in
+          let line = string_bytes w.in_ok-plant_line.field-0 in
+          let told : line ≡ plant_text (line_of here p r) = w.in_ok-plant_line.ensures ∙ ap plant_text w.in_ok-line.ensures.line in
+          let longer : after ≡ text ++ line = ap string_bytes w.text-is ∙ w.in_ok-push_str.ensures.bytes ∙ ap (λ l. text ++ l) w.as_str.ensures.value in
+          let issued : next ≡ accepted here (Issue p) = ap (ledger_of shares) w.book-is ∙ w.in_ok-line.ensures.issued in
           (lines_some here next p r text line after c.loop-plant-test.true read told longer issued ∙ inv.0, subst (Unissued (p + 1)) (sym issued) (unissued_after here p c.loop-plant.auto.plant inv.1))
-      | in-default w ↦
-          let none : reading_of here p ≡ None = sym c.reading.ensures ∙ w.in-default.is in
+      | in_default w ↦
+          let none : reading_of here p ≡ None = sym c.reading.ensures ∙ w.in_default.is in
           let same : next ≡ here = ap (ledger_of shares) w.book-is in (
             ap (λ l. l ++ lines_from (25 - (p + 1)) (p + 1) next) (ap string_bytes w.text-is) ∙ ap (λ b. text ++ lines_from (25 - (p + 1)) (p + 1) b) same ∙ ap (λ l. text ++ l) (sym (lines_none here p c.loop-plant-test.true none)) ∙ inv.0,
             subst (Unissued (p + 1)) (sym same) (λ q h. inv.1 q (omega arith)),

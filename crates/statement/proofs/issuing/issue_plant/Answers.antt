@@ -12,6 +12,6 @@ unreachable-requires g c =
     let f = ledger_of g.R.Share.shares b in
     let p = c.args.plant in
     let can = can_issue f p (sound_of f b.sound) (ap is_some c.requires.reading) c.requires.unissued in
-    let told = c.in-default.ensures.said ∙ ap (λ w. answer_by w (said f (Issue p))) can in
+    let told = c.in_default.ensures.said ∙ ap (λ w. answer_by w (said f (Issue p))) can in
     let z : ◌≡◌ {A = ℕ} 0 1 = cc in
     omega arith

@@ -1,5 +1,5 @@
 -- Accounts as the code leaves them. Assumes nothing.
-use Rattle.std.proofs.Common.{◌≡◌, true, ℤ, pos, ◌+ℤ◌, ◌-ℤ◌, Some, sym, refl, ap, ◌∙◌}
+use Rattle.std.proofs.Common.{◌≡◌, true, ℤ, ◌+ℤ◌, ◌-ℤ◌, Some, sym, ap, ◌∙◌}
 use Rattle.units.specs.declared.money.Grains.{Grains}
 use Rattle.book.specs.declared.account.Account.{Account}
 use Rattle.book.specs.Accounts.{with_side, closed_at, issued_net}

@@ -1,15 +1,14 @@
 -- What the book's checks and questions work out. Assumes nothing.
-use Rattle.std.proofs.Common.{◌≡◌, ℕ, zero, suc, ◌+◌, ◌-◌, ◌*◌, ◌<◌, ◌≤◌, Bool, true, false, cond, not, ◌&&◌, ◌||◌, eqb, ltb, leb, List, [], ◌∷◌, length, get_or, drop, ℤ, pos, negsuc, ◌+ℤ◌, ◌-ℤ◌, ◌*ℤ◌, neg_ℤ, nat_abs, is_some, Some, None, sym, refl, ap, ◌∙◌, mul-le-mul, arith}
+use Rattle.std.proofs.Common.{◌≡◌, ℕ, zero, suc, ◌+◌, ◌-◌, ◌*◌, ◌<◌, ◌≤◌, Bool, true, cond, not, ◌&&◌, eqb, ltb, leb, List, [], ◌∷◌, length, get_or, drop, ℤ, pos, negsuc, ◌-ℤ◌, ◌*ℤ◌, neg_ℤ, nat_abs, Some, None, refl, ap, ◌∙◌, mul-le-mul, arith}
 use Rattle.std.specs.List.{AllByRecursion as All}
 use Rattle.std.proofs.lemmas.Int.{ints}
 use Rattle.std.proofs.lemmas.List.{get_or-drop}
-use Rattle.std.proofs.lemmas.Bool.{cond_both, and_parts, or_from, or_parts, le-ltb, eq-eqb, eqb-true, le-leb, leb-true, leb-false, ltb-false, not_from_true, not-false}
+use Rattle.std.proofs.lemmas.Bool.{cond_both, and_parts, or_parts, eqb-true, leb-true, leb-false, ltb-false, not-false}
 use Rattle.units.specs.declared.energy.Energy.{Energy}
 use Rattle.units.specs.declared.money.Fen.{Fen}
 use Rattle.units.specs.declared.price.Price.{Price}
 use Rattle.sharing.specs.Declining.{first_of}
 use Rattle.units.specs.Fees.{fee_of}
-use Rattle.units.specs.Limits.{side_balance}
 use Rattle.book.specs.declared.account.Account.{Account}
 use Rattle.book.specs.declared.refusal.Refusal.TheVariants.{SumPastLimit}
 use Rattle.book.specs.declared.row.Row.{Row}
@@ -20,7 +19,7 @@ use Rattle.book.specs.Ledgers.{Ledger}
 use Rattle.book.specs.Rows.{plant_ok, energy_ok, price_ok, row_ok, rising, row_of, with_energy, at_energy, plant_sum, contracts_of, split_rows, split_off}
 use Rattle.book.specs.Sound.{Sound, Fair}
 use Rattle.book.proofs.AccountFacts.{fair_at}
-use Rattle.book.proofs.RowFacts.{kwh_of, share_of, all_found, number_found, share_own, share_other, plant_with, plant_energy, plant_energy_other}
+use Rattle.book.proofs.RowFacts.{all_found, number_found, share_own, plant_with, plant_energy, plant_energy_other}
 use Rattle.book.proofs.Tables.{plant_parts, passed, said_of, within, transfer_within_lem, trade_allowed_lem, shared_parts}
 
 abs_neg : (n : ℕ) → nat_abs (neg_ℤ (pos n)) ≡ n

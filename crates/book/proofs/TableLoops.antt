@@ -2,7 +2,7 @@
 use Rattle.std.proofs.Common.{◌≡◌, ℕ, suc, ◌+◌, ◌<◌, ◌≤◌, Bool, true, false, cond, eqb, ltb, List, [], ◌∷◌, ◌++◌, length, get_or, take, drop, set, is_some, Some, None, sym, refl, ap, ◌∙◌, subst, ⊎_elim, arith}
 use Rattle.std.specs.List.{insert}
 use Rattle.std.proofs.lemmas.List.{at_drop_more, take_more_set, append_assoc}
-use Rattle.std.proofs.lemmas.Bool.{true≢false, cond-true, cond-false, eq-eqb, ne_eqb, lt-ltb, le-ltb, ltb-true, and_parts, and_from, cases_order}
+use Rattle.std.proofs.lemmas.Bool.{true≢false, cond-true, cond-false, eq-eqb, ne_eqb, lt-ltb, le-ltb, and_parts, and_from, cases_order}
 use Rattle.units.specs.declared.energy.Energy.{Energy}
 use Rattle.market.specs.declared.kinds.Rank.TheVariants.{InProvinceMarket}
 use Rattle.book.specs.declared.row.Row.{Row}

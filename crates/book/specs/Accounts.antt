@@ -1,5 +1,5 @@
 -- The accounts of the 24 plants: what stands under a plant's number, and what a call changes there. Assumes nothing.
-use Rattle.std.specs.Prelude.{◌≡◌, ℕ, ◌-◌, ◌*◌, Bool, true, false, cond, not, ◌&&◌, ◌||◌, List, [], ◌∷◌, drop, ℤ, pos, ◌+ℤ◌, ◌-ℤ◌, neg_ℤ, is_some, Some, None, Option, nat_lt, slice_index, slice_index_or, slice_set}
+use Rattle.std.specs.Prelude.{ℕ, ◌-◌, ◌*◌, Bool, true, false, cond, not, ◌&&◌, ◌||◌, List, [], ◌∷◌, drop, ℤ, pos, ◌+ℤ◌, ◌-ℤ◌, neg_ℤ, is_some, Some, None, Option, nat_lt, slice_index, slice_index_or, slice_set}
 use Rattle.units.specs.declared.money.Grains.{Grains}
 use Rattle.units.specs.declared.price.Price.{Price}
 use Rattle.units.specs.Fits.{grains}

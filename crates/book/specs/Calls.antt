@@ -1,5 +1,5 @@
 -- What each call on a book answers, and what the book's figures are then. Assumes nothing.
-use Rattle.std.specs.Prelude.{◌≡◌, ℕ, ◌+◌, ◌≤◌, Bool, true, false, cond, not, ◌&&◌, ◌||◌, ltb, List, [], ◌∷◌, map, length, ℤ, pos, ◌+ℤ◌, neg_ℤ, is_some, IfOk, Some, None, Ok, Err, Option, Result, ◌==◌, nat_le, nat_lt, unsigned_abs}
+use Rattle.std.specs.Prelude.{◌≡◌, ℕ, ◌+◌, ◌≤◌, Bool, true, false, cond, not, ◌&&◌, ◌||◌, ltb, List, [], ◌∷◌, map, length, ℤ, ◌+ℤ◌, neg_ℤ, is_some, IfOk, Some, None, Ok, Err, Option, Result, ◌==◌, nat_le, nat_lt, unsigned_abs}
 use Rattle.units.specs.declared.energy.Energy.{Energy}
 use Rattle.units.specs.declared.money.Fen.{Fen}
 use Rattle.units.specs.declared.price.Price.{Price}

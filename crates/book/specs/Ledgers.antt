@@ -1,12 +1,11 @@
 -- The figures of a month book, and the figures of one of its plants. Assumes nothing.
-use Rattle.std.specs.Prelude.{ℕ, List, [], replicate, ℤ, pos, Some, None, Option}
+use Rattle.std.specs.Prelude.{ℕ, List, [], replicate, ℤ, Some, None, Option}
 use Rattle.std.specs.Option.{unwrap_or}
 use Rattle.units.specs.declared.price.Price.{Price}
 use Rattle.market.specs.declared.kinds.Class.{Class}
 use Rattle.market.specs.declared.kinds.Class.TheVariants.{Hydro}
 use Rattle.market.specs.declared.kinds.Season.TheVariants.{Dry}
 use Rattle.market.specs.declared.figures.PlantFigures.{PlantFigures}
-use Rattle.market.specs.declared.figures.Settlement.{Settlement}
 use Rattle.market.specs.Dividing.{energy}
 use Rattle.market.specs.Figures.{Figures, settlement_of}
 use Rattle.market.specs.Kinds.{season_of}

@@ -1,5 +1,5 @@
 -- What every book that exists keeps. Assumes nothing.
-use Rattle.std.specs.Prelude.{◌≡◌, ℕ, ◌≤◌, true, false, List, length, ℤ, pos, ◌≤ℤ◌, ◌<ℤ◌, is_some, unsigned_abs}
+use Rattle.std.specs.Prelude.{◌≡◌, ℕ, ◌≤◌, true, false, length, pos, ◌≤ℤ◌, ◌<ℤ◌, is_some, unsigned_abs}
 use Rattle.std.specs.List.{AllByRecursion as All}
 use Rattle.units.specs.Payments.{most_net, most_carry}
 use Rattle.book.specs.declared.account.Account.{Account}

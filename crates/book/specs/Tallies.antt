@@ -1,7 +1,5 @@
 -- A tally that is kept beside a book, fed with the calls and their answers alone, and the law that every run keeps. Assumes nothing.
 use Rattle.std.specs.Prelude.{◌≡◌, ℕ, ◌+◌, ◌-◌, ◌≤◌, true, false, List, [], ◌∷◌, map, replicate, ℤ, pos, ◌+ℤ◌, ◌*ℤ◌, ◌≤ℤ◌, ◌<ℤ◌, Some, None, Option, slice_index_or, slice_set}
-use Rattle.units.specs.declared.energy.Energy.{Energy}
-use Rattle.units.specs.declared.money.Fen.{Fen}
 use Rattle.units.specs.declared.price.Price.{Price}
 use Rattle.units.specs.Fits.{grains}
 use Rattle.market.specs.Figures.{settled_energies, settlement_of}

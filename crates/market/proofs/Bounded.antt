@@ -1,5 +1,5 @@
 -- How large prices, amounts and nets can be. Assumes nothing.
-use Rattle.std.proofs.Common.{ℕ, ◌+◌, ◌-◌, ◌*◌, ◌≤◌, ltb, List, [], ◌∷◌, ℤ, pos, nat_abs, sum, ⊎_elim, mul-le-mul, arith, lit≤}
+use Rattle.std.proofs.Common.{ℕ, ◌+◌, ◌*◌, ◌≤◌, ltb, List, [], ◌∷◌, ℤ, pos, nat_abs, sum, ⊎_elim, mul-le-mul, arith, lit≤}
 use Rattle.std.specs.List.{AllByRecursion as All}
 use Rattle.std.proofs.lemmas.Int.{ints}
 use Rattle.std.proofs.lemmas.Bool.{cases_Bool, cond-true, cond-false}

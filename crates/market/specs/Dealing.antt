@@ -1,5 +1,5 @@
 -- The parts of the ranks laid out over their contracts. Assumes nothing.
-use Rattle.std.specs.Prelude.{◌≡◌, ℕ, ◌-◌, ◌≤◌, cond, List, [], ◌∷◌, drop, sum, ◌≢◌, slice_index}
+use Rattle.std.specs.Prelude.{ℕ, ◌-◌, ◌≤◌, cond, List, [], ◌∷◌, drop, sum, ◌≢◌, slice_index}
 use Rattle.units.specs.declared.energy.Energy.{Energy}
 use Rattle.market.specs.declared.figures.Contract.{Contract}
 use Rattle.market.specs.declared.kinds.Rank.{Rank}

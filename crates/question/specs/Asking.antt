@@ -1,5 +1,5 @@
 -- A line of text as a question: the rule's name, the total, and the claims. Assumes nothing.
-use Rattle.std.specs.Prelude.{◌≡◌, ℕ, suc, ◌+◌, ◌-◌, ◌*◌, ◌^◌, Bool, cond, ◌&&◌, List, [], ◌∷◌, Some, None, Ok, Err, vec_items, Option, Result, ◌==◌, ◌≢◌, nat_le, nat_lt, slice_index}
+use Rattle.std.specs.Prelude.{◌≡◌, ℕ, ◌+◌, ◌-◌, ◌*◌, ◌^◌, cond, ◌&&◌, List, [], ◌∷◌, Some, None, Ok, Err, vec_items, Option, Result, ◌==◌, ◌≢◌, nat_le, nat_lt, slice_index}
 use Rattle.question.specs.declared.chosen.ChosenRule.{ChosenRule}
 use Rattle.question.specs.declared.fault.Fault.{Fault}
 use Rattle.question.specs.declared.fault.Fault.TheVariants.{UnknownRule, NoTotal, BadTotal, BadClaim, NoMemory}

@@ -1,5 +1,5 @@
 -- Stretches of bytes, and the words and lines that they make up. Assumes nothing.
-use Rattle.std.specs.Prelude.{ℕ, Bool, true, false, cond, not, ◌||◌, List, [], ◌∷◌, ◌++◌, ◌==◌, nat_eq}
+use Rattle.std.specs.Prelude.{ℕ, Bool, cond, not, ◌||◌, List, [], ◌∷◌, ◌++◌, ◌==◌, nat_eq}
 use Rattle.question.specs.declared.stretch.Stop.{Stop}
 use Rattle.question.specs.declared.stretch.Stop.TheVariants.{Blank, Word, Newline}
 

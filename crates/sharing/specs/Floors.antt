@@ -1,5 +1,5 @@
 -- The running floor of equal ratio. Assumes nothing.
-use Rattle.std.specs.Prelude.{◌≡◌, ℕ, ◌+◌, ◌*◌, ◌/◌, ◌<◌, ◌≤◌, refl}
+use Rattle.std.specs.Prelude.{◌≡◌, ℕ, ◌+◌, ◌*◌, ◌/◌, ◌<◌, ◌≤◌}
 use Rattle.std.proofs.Common.{sym, ap, ◌∙◌, ⊎_elim, arith, mul-add, mul-zero, div-mul-le_self, mul-le-mul_right, mul-div_cancel}
 use Rattle.std.proofs.Math.Nat.{zero-div, add-mul-div_left}
 use Rattle.std.proofs.lemmas.Nat.{le-div}

@@ -1,5 +1,5 @@
 -- Which questions are declined and by which number, and what a share answers. Assumes nothing.
-use Rattle.std.specs.Prelude.{◌≡◌, ℕ, ◌*◌, ◌<◌, ◌≤◌, Bool, false, not, ◌&&◌, ◌||◌, List, [], ◌∷◌, length, IfOk, Some, None, sum, Option, Result, ◌==◌, nat_lt, slice_index}
+use Rattle.std.specs.Prelude.{◌≡◌, ℕ, ◌*◌, ◌<◌, ◌≤◌, Bool, false, not, ◌&&◌, ◌||◌, List, [], ◌∷◌, length, IfOk, None, sum, Option, Result, ◌==◌, nat_lt, slice_index}
 use Rattle.sharing.specs.Declining.{first_of, answered, placed}
 use Rattle.sharing.specs.Laws.{Fair}
 use Rattle.sharing.specs.declared.refusal.Refusal.{Refusal}

@@ -33,7 +33,7 @@ fn a_question(rt: HostRuntime) -> Result<(), Fail> {
     let q = question_of(&rt, b"\tequal-ratio  7 05 18446744073709551615\r")?;
     assert_eq!(rt; q.rule, ChosenRule::EqualRatio);
     assert_eq!(rt; q.total, 7);
-    assert_eq!(rt; q.claims.as_slice(), &[5, u64::MAX]);
+    assert_eq!(rt; q.claims.as_slice(), [5, u64::MAX].as_slice());
     Ok(())
 }
 
@@ -66,11 +66,11 @@ fn faults(rt: HostRuntime) {
 #[test]
 fn lines(rt: HostRuntime) {
     let (first, rest) = split_line(b"one\n\ntwo");
-    assert_eq!(rt; first, b"one");
+    assert_eq!(rt; first, b"one".as_slice());
     let (second, rest) = split_line(rest);
-    assert_eq!(rt; second, b"");
+    assert_eq!(rt; second, b"".as_slice());
     let (third, rest) = split_line(rest);
-    assert_eq!(rt; third, b"two");
+    assert_eq!(rt; third, b"two".as_slice());
     assert!(rt; rest.is_empty());
 }
 

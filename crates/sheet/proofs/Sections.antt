@@ -1,5 +1,5 @@
 -- A section cut out of a sheet. Assumes nothing.
-use Rattle.std.proofs.Common.{◌≡◌, ℕ, ◌+◌, ◌*◌, ◌/◌, ◌≤◌, List, [], length, get_or, take, drop, Some, None, Ok, Err, sym, refl, ap, ◌∙◌, arith}
+use Rattle.std.proofs.Common.{◌≡◌, ℕ, ◌*◌, ◌/◌, ◌≤◌, List, [], length, get_or, take, drop, Some, None, Ok, Err, sym, refl, ap, ◌∙◌, arith}
 use Rattle.std.proofs.lemmas.List.{drop_all}
 use Rattle.sharing.specs.Declining.{first_of}
 use Rattle.sheet.specs.declared.fault.Problem.{Problem}
@@ -7,7 +7,7 @@ use Rattle.sheet.specs.declared.fault.Problem.TheVariants.{CutShort}
 use Rattle.sheet.specs.declared.kind.Kind.{Kind}
 use Rattle.sheet.specs.declared.kind.Kind.TheVariants.{Enrols, Enters, Transfers, Meters}
 use Rattle.sheet.specs.Faults.{sheet_fault}
-use Rattle.sheet.specs.Formats.{Stretches, Whole, count_in, cut_by, cut_out, head_size, kind_of, section_at, section_conditions, section_size, size_by, size_in, term_size}
+use Rattle.sheet.specs.Formats.{Whole, count_in, cut_by, cut_out, head_size, kind_of, section_at, section_conditions, section_size, size_by, size_in, term_size}
 
 pub faulty : (offset : ℕ) (rest : List ℕ) (why : Problem) → first_of (section_conditions rest) ≡ Some why → section_at offset rest ≡ Err (sheet_fault offset why)
 unfolding section_at

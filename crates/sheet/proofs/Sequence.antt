@@ -1,7 +1,7 @@
 -- The sections of a sheet, made one after another. Assumes nothing.
-use Rattle.std.proofs.Common.{◌≡◌, ℕ, suc, ◌+◌, ◌-◌, ◌<◌, ◌≤◌, List, [], ◌∷◌, ◌++◌, length, drop, Some, None, Ok, Err, Option, Result, sym, refl, ap, ◌∙◌, subst, arith}
+use Rattle.std.proofs.Common.{◌≡◌, ℕ, suc, ◌+◌, ◌-◌, ◌<◌, ◌≤◌, List, [], ◌∷◌, ◌++◌, length, drop, Some, None, Ok, Err, Option, sym, refl, ap, ◌∙◌, arith}
 use Rattle.std.proofs.lemmas.List.{drop-drop, drop_all, length-drop}
-use Rattle.sharing.specs.Declining.{answered, placed}
+use Rattle.sharing.specs.Declining.{placed}
 use Rattle.book.specs.declared.call.Call.{Call}
 use Rattle.book.specs.declared.refusal.Refusal.{Refusal}
 use Rattle.book.specs.Calls.{accepted, answer, declined}
@@ -13,7 +13,6 @@ use Rattle.sheet.specs.declared.fault.Problem.TheVariants.{LeftOver}
 use Rattle.sheet.specs.Faults.{or_else, sheet_fault}
 use Rattle.sheet.specs.Formats.{Contents, Stretches, all_calls, calls_of, contents_from, left_over, section_at, size_in, with_section}
 use Rattle.sheet.specs.Loads.{answers_of, book_fault, fault_in, item_fault, left_by, made_of}
-use Rattle.sheet.proofs.Making.{Says, was_some}
 
 -- The faults and the figures of what a sheet holds.
 abbrev pub fault_of : Ledger → Contents → Option Fault

@@ -1,12 +1,11 @@
 -- A whole sheet that was loaded. Assumes nothing.
-use Rattle.std.proofs.Common.{◌≡◌, ℕ, suc, ◌+◌, ◌<◌, ◌≤◌, Bool, true, false, cond, not, ltb, List, [], ◌∷◌, length, get_or, drop, Some, None, Ok, Err, Option, Result, sym, refl, ap, ◌∙◌, subst, arith, w8, Fits}
+use Rattle.std.proofs.Common.{◌≡◌, ℕ, suc, ◌<◌, Bool, true, false, cond, not, ltb, List, [], ◌∷◌, length, get_or, drop, Some, None, Ok, Err, Option, Result, sym, refl, ap, ◌∙◌, subst, arith, w8, Fits}
 use Rattle.std.proofs.lemmas.Bool.{ltb-false}
 use Rattle.std.specs.List.{AllByRecursion as All}
 use Rattle.units.specs.declared.price.Price.{Price}
 use Rattle.sharing.specs.Declining.{answered, placed}
 use Rattle.sharing.proofs.Granted.{was_none}
 use Rattle.market.specs.Laws.{Lawful}
-use Rattle.book.specs.declared.refusal.Refusal.{Refusal}
 use Rattle.book.specs.declared.refusal.Refusal.TheVariants.{PastLimit}
 use Rattle.book.specs.Calls.{after_open, open_declined, open_within}
 use Rattle.book.specs.Ledgers.{Ledger, opened}
@@ -16,10 +15,10 @@ use Rattle.sheet.specs.declared.fault.Cause.{Cause}
 use Rattle.sheet.specs.declared.fault.Cause.TheVariants.{Sheet, Book}
 use Rattle.sheet.specs.declared.fault.Fault.{Fault}
 use Rattle.sheet.specs.declared.fault.Problem.TheVariants.{TooLong, CutShort}
-use Rattle.sheet.specs.Faults.{fault_at, or_else}
+use Rattle.sheet.specs.Faults.{or_else}
 use Rattle.sheet.specs.Formats.{contents_from, contents_of, month_in, residential_in, section_count}
 use Rattle.sheet.specs.Loads.{Loaded, answers_of, book_fault, calls_in_sheet, header_fault, header_problem, left_by, load_fault, loaded_into, made_of, opened_by}
-use Rattle.sheet.proofs.Making.{Says, was_some}
+use Rattle.sheet.proofs.Making.{Says}
 use Rattle.sheet.proofs.Sequence.{all_made, fault_of, left_of, run_of}
 use Rattle.sheet.proofs.Writing.{exact_contents}
 

@@ -1,10 +1,9 @@
 -- A plant that is metered and not issued can be settled and issued. Assumes nothing.
-use Rattle.std.proofs.Common.{◌≡◌, ℕ, ◌+◌, ◌≤◌, Bool, true, false, cond, not, ◌||◌, eqb, ◌⊎◌, List, length, is_some, Some, None, Option, sym, refl, ap, ◌∙◌, inl, inr, ⊎_elim, arith}
+use Rattle.std.proofs.Common.{◌≡◌, ℕ, Bool, true, false, cond, not, ◌||◌, eqb, length, is_some, Some, None, Option, sym, refl, ⊎_elim}
 use Rattle.std.proofs.lemmas.Bool.{true≢false}
 use Rattle.std.proofs.lemmas.Bool.Decides.{eqb_tells}
 use Rattle.book.specs.declared.account.Reading.{Reading}
 use Rattle.book.specs.declared.call.Call.TheVariants.{Issue}
-use Rattle.book.specs.declared.refusal.Refusal.{Refusal}
 use Rattle.book.specs.declared.refusal.Refusal.TheVariants.{PastLimit, NotEnrolled, AlreadyThere, NotReady, SliceLength}
 use Rattle.book.specs.Accounts.{is_enrolled, is_issued, is_metered}
 use Rattle.book.specs.Calls.{at, declined, reading_of, settle_declined}

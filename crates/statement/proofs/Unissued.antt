@@ -1,10 +1,9 @@
 -- Loading a sheet issues nothing, and issuing a plant issues no other. Assumes nothing.
-use Rattle.std.proofs.Common.{◌≡◌, ℕ, zero, suc, ◌+◌, ◌-◌, ◌<◌, ◌≤◌, Bool, true, false, List, [], ◌∷◌, ◌++◌, get_or, replicate, ℤ, neg_ℤ, is_some, Some, None, Option, sym, refl, ap, ◌∙◌, subst, arith}
+use Rattle.std.proofs.Common.{◌≡◌, ℕ, zero, suc, ◌+◌, ◌-◌, ◌≤◌, true, false, List, [], ◌∷◌, ◌++◌, get_or, replicate, neg_ℤ, is_some, Some, None, Option, sym, refl, ap, ◌∙◌, arith}
 use Rattle.std.specs.List.{AllByRecursion as All}
 use Rattle.std.proofs.ByRecursion.{All-set}
 use Rattle.std.proofs.lemmas.Bool.{true≢false}
 use Rattle.sharing.specs.Declining.{placed}
-use Rattle.sharing.specs.Rules.{equal_ratio}
 use Rattle.units.specs.declared.price.Price.{Price}
 use Rattle.units.specs.declared.energy.Energy.{Energy}
 use Rattle.market.specs.declared.kinds.Class.{Class}
@@ -16,13 +15,13 @@ use Rattle.book.specs.declared.call.Call.TheVariants.{Enrol, Enter, Amend, Trans
 use Rattle.book.specs.declared.refusal.Refusal.{Refusal}
 use Rattle.book.specs.declared.row.Row.{Row}
 use Rattle.book.specs.Accounts.{account_of, blank, enrolled_as, is_issued, issued_at, side_moved, with_account, with_reading}
-use Rattle.book.specs.Calls.{accepted, at, declined, entered, fee_for, transferred}
+use Rattle.book.specs.Calls.{accepted, declined, entered, fee_for, transferred}
 use Rattle.book.specs.Ledgers.{Ledger, net_of_plant}
 use Rattle.book.specs.Rows.{row_of}
 use Rattle.book.proofs.AccountFacts.{account_other}
 use Rattle.sheet.specs.declared.kind.Kind.{Kind}
 use Rattle.sheet.specs.declared.kind.Kind.TheVariants.{Enrols, Enters, Transfers, Meters}
-use Rattle.sheet.specs.Formats.{Stretches, all_calls, call_of, calls_in, calls_of, contents_of, head_size, kind_for, term_size}
+use Rattle.sheet.specs.Formats.{Stretches, all_calls, call_of, calls_in, calls_of, contents_of, kind_for}
 use Rattle.sheet.specs.Loads.{calls_in_sheet, left_by, opened_by}
 use Rattle.statement.specs.Statements.{Unissued}
 

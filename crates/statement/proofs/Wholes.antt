@@ -1,6 +1,6 @@
 -- The statement of a sheet that was loaded. Assumes nothing.
-use Rattle.std.proofs.Common.{◌≡◌, ℕ, List, Some, None, Ok, Err, Option, Result, sym, refl, ap, ◌∙◌, subst, arith}
-use Rattle.sharing.specs.Declining.{answered, placed}
+use Rattle.std.proofs.Common.{◌≡◌, ℕ, List, Some, None, Ok, Err, Option, sym, refl, ap, ◌∙◌, subst, arith}
+use Rattle.sharing.specs.Declining.{placed}
 use Rattle.sharing.specs.Rules.{equal_ratio}
 use Rattle.sharing.proofs.Granted.{was_none}
 use Rattle.book.specs.Ledgers.{Ledger}

@@ -1,5 +1,5 @@
 -- The statement of a month sheet. Assumes nothing.
-use Rattle.std.specs.Prelude.{◌≡◌, ℕ, zero, suc, ◌+◌, ◌≤◌, Bool, false, List, [], ◌∷◌, ◌++◌, ◌+ℤ◌, Some, None, Option}
+use Rattle.std.specs.Prelude.{◌≡◌, ℕ, zero, suc, ◌+◌, ◌≤◌, false, List, [], ◌++◌, ◌+ℤ◌, Some, None, Option}
 use Rattle.units.specs.Payments.{split}
 use Rattle.sharing.specs.Rules.{equal_ratio}
 use Rattle.market.specs.Figures.{settlement_of}

@@ -1,4 +1,4 @@
-use Rattle.std.proofs.Common.{◌≡◌, ◌*◌, pos, ◌*ℤ◌, neg_ℤ, ap, ◌∙◌, arith}
+use Rattle.std.proofs.Common.{pos, ◌*ℤ◌, neg_ℤ, arith}
 use Rattle.std.proofs.lemmas.Int.{ints}
 use Rattle.units.proofs.Fitting.{grains_held, grains_value}
 use Rattle.book.proofs.account.debit.Goals as goal

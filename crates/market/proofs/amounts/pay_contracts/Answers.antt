@@ -1,4 +1,4 @@
-use Rattle.std.proofs.Common.{◌≡◌, ◌+◌, ◌-◌, ◌≤◌, get_or, drop, pos, ◌+ℤ◌, nat_abs, sym, refl, ap, ◌∙◌, subst, arith}
+use Rattle.std.proofs.Common.{◌≡◌, ◌-◌, ◌≤◌, get_or, drop, pos, ◌+ℤ◌, nat_abs, sym, refl, ap, ◌∙◌, subst, arith}
 use Rattle.market.specs.Dividing.{energy}
 use Rattle.market.specs.Figures.{amount_of, amount_sum}
 use Rattle.market.proofs.Admitted.{blank}

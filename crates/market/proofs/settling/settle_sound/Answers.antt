@@ -1,4 +1,4 @@
-use Rattle.std.proofs.Common.{◌-◌, get_or, pos, sym, refl, ap, ◌∙◌, subst, arith}
+use Rattle.std.proofs.Common.{get_or, pos, sym, refl, ap, ◌∙◌, subst, arith}
 use Rattle.market.specs.Dealing.{Covered}
 use Rattle.market.specs.Dividing.{energy}
 use Rattle.market.specs.Laws.{figures_of}

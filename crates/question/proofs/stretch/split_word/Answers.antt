@@ -1,6 +1,6 @@
 use Rattle.std.proofs.Common.{◌≡◌, not, length, sym, ap, ◌∙◌, arith}
 use Rattle.question.specs.Stretches.{blank, before, onward, with_word, words_of}
-use Rattle.question.proofs.Stretching.{stretch_length, words_split, words_none}
+use Rattle.question.proofs.Stretching.{words_split, words_none}
 use Rattle.question.proofs.stretch.split_word.Goals as goal
 
 pub returns : goal.returns

@@ -1,4 +1,4 @@
-use Rattle.std.proofs.Common.{◌≡◌, ◌+◌, ◌-◌, drop, Some, Err, sym, ap, ◌∙◌, arith}
+use Rattle.std.proofs.Common.{◌+◌, ◌-◌, drop, Err, sym, ap, ◌∙◌}
 use Rattle.sharing.specs.Declining.{answered}
 use Rattle.sharing.proofs.Granted.{was_none}
 use Rattle.book.specs.Holds.{ledger_of}

@@ -1,6 +1,5 @@
-use Rattle.std.proofs.Common.{◌≡◌, ◌+◌, ◌*◌, length, drop, Ok, Err, sym, ap, ◌∙◌, subst, arith}
-use Rattle.sheet.specs.declared.fault.Problem.TheVariants.{CutShort}
-use Rattle.sheet.specs.Formats.{Stretches, Whole, count_in, head_size, section_at, size_in, term_size}
+use Rattle.std.proofs.Common.{◌≡◌, ◌+◌, ◌*◌, length, Ok, Err, sym, ap, ◌∙◌, subst, arith}
+use Rattle.sheet.specs.Formats.{Whole, head_size, section_at, size_in, term_size}
 use Rattle.sheet.proofs.Sections.{cut, cut_out_lem, faulty, past_end, size_is, whole}
 use Rattle.sheet.proofs.section.read_section.Goals as goal
 

@@ -1,4 +1,4 @@
-use Rattle.std.proofs.Common.{◌≡◌, ℕ, is_some, sym, ap, ◌∙◌, arith}
+use Rattle.std.proofs.Common.{◌≡◌, ℕ, is_some, ap, ◌∙◌, arith}
 use Rattle.book.specs.declared.call.Call.TheVariants.{Issue}
 use Rattle.book.specs.Calls.{answer_by, said}
 use Rattle.book.specs.Holds.{ledger_of}

@@ -1,4 +1,4 @@
-use Rattle.std.proofs.Common.{◌≡◌, ℕ, length, sym, ap, ◌∙◌, arith, rules}
+use Rattle.std.proofs.Common.{◌≡◌, ℕ, length, ap, ◌∙◌, arith, rules}
 use Rattle.sharing.specs.Declining.{answered}
 use Rattle.market.specs.Figures.{settlement_of}
 use Rattle.book.specs.Holds.{ledger_of}

@@ -1,9 +1,5 @@
-use Rattle.std.proofs.Common.{◌≡◌, Some, None, sym, ap, ◌∙◌, subst}
+use Rattle.std.proofs.Common.{◌∙◌}
 use Rattle.std.proofs.lemmas.Result.{IfOk-weaker}
-use Rattle.sharing.specs.Rules.{equal_ratio}
-use Rattle.book.specs.Ledgers.{Ledger}
-use Rattle.sheet.specs.Loads.{load_fault, loaded_into}
-use Rattle.statement.specs.Statements.{Unissued, new_book, statement_by, statement_of}
 use Rattle.statement.proofs.Wholes.{faulted, sound_load, unissued}
 use Rattle.statement.proofs.issuing.statement.Goals as goal
 

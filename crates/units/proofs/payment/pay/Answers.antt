@@ -1,4 +1,4 @@
-use Rattle.std.proofs.Common.{◌≡◌, ℤ, pos, ◌+ℤ◌, IfSome, Some, Option, sym, refl, ap, ◌∙◌, subst}
+use Rattle.std.proofs.Common.{◌≡◌, pos, ◌+ℤ◌, IfSome, Some, Option, sym, refl, ap, ◌∙◌, subst}
 use Rattle.std.specs.Int.{int_div_euclid, int_rem_euclid}
 use Rattle.units.specs.declared.money.Grains.{Grains}
 use Rattle.units.specs.declared.payment.Payment.{Payment}

@@ -1,6 +1,6 @@
-use Rattle.std.proofs.Common.{◌≡◌, ◌+◌, ◌<◌, ◌≤◌, ◌++◌, length, take, drop, sym, ap, ◌∙◌, arith, rules}
+use Rattle.std.proofs.Common.{◌≡◌, ◌+◌, ◌<◌, ◌++◌, length, take, drop, sym, ap, ◌∙◌, arith}
 use Rattle.std.proofs.lemmas.List.{at_drop_all, append-nil, length-take-le}
-use Rattle.book.specs.Accounts.{metered_claims, metered_kwh}
+use Rattle.book.specs.Accounts.{metered_claims}
 use Rattle.book.proofs.AccountLoops.{claim_hit, claim_miss, claim_step}
 use Rattle.book.proofs.accounts.AccountTable.claims.Goals as goal
 use Rattle.book.proofs.accounts.AccountTable.claims.Goals.{then-is_some, else-is_some}

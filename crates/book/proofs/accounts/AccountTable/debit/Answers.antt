@@ -1,8 +1,8 @@
-use Rattle.std.proofs.Common.{◌≡◌, ◌+◌, ◌<◌, ◌≤◌, ◌++◌, length, get_or, take, drop, set, nat_abs, is_some, sym, ap, ◌∙◌, subst, arith, rules}
+use Rattle.std.proofs.Common.{◌+◌, ◌<◌, ◌≤◌, ◌++◌, length, get_or, take, drop, nat_abs, is_some, sym, ap, ◌∙◌, arith}
 use Rattle.std.proofs.lemmas.Int.{ints}
 use Rattle.std.proofs.lemmas.List.{take_all, at_drop_all, drop-set-lt, append-nil}
 use Rattle.book.specs.declared.accounts.AccountTable.{AccountTable}
-use Rattle.book.specs.Accounts.{metered_claims, debited, blank, side_moved}
+use Rattle.book.specs.Accounts.{debited, blank, side_moved}
 use Rattle.book.proofs.AccountLoops.{claim_hit, claim_miss, debit_read, debit_rest, debit_hit, debit_miss}
 use Rattle.book.proofs.accounts.AccountTable.debit.Goals as goal
 use Rattle.book.proofs.accounts.AccountTable.debit.Goals.{then-is_some, else-is_some}

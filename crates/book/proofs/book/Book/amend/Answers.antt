@@ -1,4 +1,4 @@
-use Rattle.std.proofs.Common.{◌≡◌, sym, refl}
+use Rattle.std.proofs.Common.{sym, refl}
 use Rattle.std.proofs.lemmas.Bool.{not-false}
 use Rattle.book.specs.declared.call.Call.TheVariants.{Amend}
 use Rattle.book.specs.Calls.{conditions, accepted}

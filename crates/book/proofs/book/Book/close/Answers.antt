@@ -1,4 +1,4 @@
-use Rattle.std.proofs.Common.{◌≡◌, nat_abs, sym, refl, ap, ◌∙◌, arith}
+use Rattle.std.proofs.Common.{nat_abs, sym, refl, ap, ◌∙◌, arith}
 use Rattle.book.specs.declared.call.Call.TheVariants.{Close}
 use Rattle.book.specs.Accounts.{with_account, closed_at, net_at}
 use Rattle.book.specs.Calls.{accepted}

@@ -1,5 +1,4 @@
-use Rattle.std.proofs.Common.{◌≡◌, true, false, List, None, sym, refl, ap, ◌∙◌}
-use Rattle.book.specs.declared.account.Account.{Account}
+use Rattle.std.proofs.Common.{◌≡◌, true, false, None, sym, refl, ap, ◌∙◌}
 use Rattle.book.specs.declared.call.Call.TheVariants.{Compensate}
 use Rattle.book.specs.Accounts.{any_account, is_past_side_limit, compensated}
 use Rattle.book.specs.Calls.{declined, accepted, compensated_in}

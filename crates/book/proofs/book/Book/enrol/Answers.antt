@@ -1,4 +1,4 @@
-use Rattle.std.proofs.Common.{◌≡◌, sym, refl, ap, ◌∙◌}
+use Rattle.std.proofs.Common.{sym, refl, ap, ◌∙◌}
 use Rattle.book.specs.declared.call.Call.TheVariants.{Enrol}
 use Rattle.book.specs.Accounts.{with_account, enrolled_as}
 use Rattle.book.specs.Calls.{accepted}

@@ -1,4 +1,4 @@
-use Rattle.std.proofs.Common.{sym, arith, rules}
+use Rattle.std.proofs.Common.{sym, rules}
 use Rattle.book.specs.Holds.{ledger_of}
 use Rattle.book.proofs.Figured.{row_plant, owner_sum, owner_le}
 use Rattle.book.proofs.Props.{sound_of}

@@ -1,4 +1,4 @@
-use Rattle.std.proofs.Common.{◌≡◌, Some, sym, refl, ap, ◌∙◌, rules}
+use Rattle.std.proofs.Common.{sym, refl, ap, ◌∙◌}
 use Rattle.book.specs.Holds.{ledger_of}
 use Rattle.book.specs.Rows.{row_of}
 use Rattle.book.proofs.Figured.{row_plant}

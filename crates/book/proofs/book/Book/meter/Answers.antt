@@ -1,4 +1,4 @@
-use Rattle.std.proofs.Common.{◌≡◌, sym, refl}
+use Rattle.std.proofs.Common.{sym, refl}
 use Rattle.book.specs.declared.call.Call.TheVariants.{Meter}
 use Rattle.book.specs.Calls.{accepted}
 use Rattle.book.specs.Holds.{ledger_of}

@@ -1,4 +1,4 @@
-use Rattle.std.proofs.Common.{◌≡◌, refl, ap}
+use Rattle.std.proofs.Common.{refl, ap}
 use Rattle.market.specs.Prices.{micro}
 use Rattle.book.specs.Ledgers.{opened}
 use Rattle.book.proofs.Kept.{first_sound}

@@ -1,4 +1,4 @@
-use Rattle.std.proofs.Common.{◌≡◌, sym, refl, ◌∙◌}
+use Rattle.std.proofs.Common.{sym, refl}
 use Rattle.book.specs.Ledgers.{opened}
 use Rattle.book.proofs.Kept.{opened_sound}
 use Rattle.book.proofs.Props.{kept}

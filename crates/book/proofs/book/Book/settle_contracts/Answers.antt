@@ -1,4 +1,4 @@
-use Rattle.std.proofs.Common.{◌≡◌, ◌≤◌, length, None, sym, ap, ◌∙◌, subst}
+use Rattle.std.proofs.Common.{◌≡◌, length, None, ap, ◌∙◌}
 use Rattle.sharing.specs.Declining.{placed}
 use Rattle.sharing.proofs.Granted.{was_value}
 use Rattle.market.specs.Admitting.{settle_declined}

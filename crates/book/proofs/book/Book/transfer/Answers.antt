@@ -1,13 +1,12 @@
-use Rattle.std.proofs.Common.{◌≡◌, ◌-◌, length, neg_ℤ, nat_abs, is_some, Some, sym, refl, ap, ◌∙◌, arith, rules}
+use Rattle.std.proofs.Common.{◌≡◌, ◌-◌, length, neg_ℤ, nat_abs, is_some, Some, sym, refl, ap, ◌∙◌, arith}
 use Rattle.std.proofs.lemmas.Int.{ints}
-use Rattle.units.specs.declared.energy.Energy.{Energy}
 use Rattle.book.specs.declared.account.Account.{Account}
 use Rattle.book.specs.declared.call.Call.TheVariants.{Transfer}
 use Rattle.book.specs.Accounts.{account_of, with_account, side_moved}
-use Rattle.book.specs.Calls.{accepted, transferred, fee_for, fee_paid}
+use Rattle.book.specs.Calls.{accepted, transferred, fee_for}
 use Rattle.book.specs.Holds.{ledger_of}
 use Rattle.book.specs.Ledgers.{Ledger}
-use Rattle.book.specs.Rows.{row_of, with_row, with_energy, split_off, split_rows}
+use Rattle.book.specs.Rows.{with_row, with_energy, split_off}
 use Rattle.book.proofs.AccountFacts.{account_other}
 use Rattle.book.proofs.Figured.{transferable, fair_of}
 use Rattle.book.proofs.Kept.{transfer_sound}

@@ -1,6 +1,5 @@
-use Rattle.std.proofs.Common.{◌≡◌, true, nat_abs, sym, ap, ◌∙◌, arith, rules}
+use Rattle.std.proofs.Common.{◌≡◌, true, nat_abs, ap, arith, rules}
 use Rattle.std.proofs.lemmas.Int.{ints}
-use Rattle.units.specs.declared.price.Price.{Price}
 use Rattle.book.specs.declared.account.Account.{Account}
 use Rattle.book.specs.Calls.{transfer_past}
 use Rattle.book.specs.Holds.{ledger_of}

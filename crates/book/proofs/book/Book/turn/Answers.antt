@@ -1,4 +1,4 @@
-use Rattle.std.proofs.Common.{◌≡◌, sym, refl, ap, ◌∙◌}
+use Rattle.std.proofs.Common.{sym, refl}
 use Rattle.book.specs.declared.call.Call.TheVariants.{Turn}
 use Rattle.book.specs.Calls.{accepted}
 use Rattle.book.specs.Holds.{ledger_of}

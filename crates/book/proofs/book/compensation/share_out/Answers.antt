@@ -1,4 +1,4 @@
-use Rattle.std.proofs.Common.{◌≡◌, length, None, sym, ap, ◌∙◌}
+use Rattle.std.proofs.Common.{◌≡◌, length, None, ap, ◌∙◌}
 use Rattle.sharing.specs.Declining.{placed}
 use Rattle.sharing.specs.Questions.{declined}
 use Rattle.sharing.specs.Asked.{compensation_accepted}

@@ -1,4 +1,4 @@
-use Rattle.std.proofs.Common.{◌≡◌, ap, ◌∙◌, arith}
+use Rattle.std.proofs.Common.{arith}
 use Rattle.book.proofs.TableLoops.{place_within, inserted_held}
 use Rattle.book.proofs.table.ContractTable.insert.Goals as goal
 

@@ -1,4 +1,4 @@
-use Rattle.std.proofs.Common.{◌≡◌, sym, ap, ◌∙◌, arith}
+use Rattle.std.proofs.Common.{ap, arith}
 use Rattle.book.specs.Rows.{place_of}
 use Rattle.book.proofs.TableLoops.{place_hit, place_miss}
 use Rattle.std.proofs.lemmas.List.{at_drop_all}

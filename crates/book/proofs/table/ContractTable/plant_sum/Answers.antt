@@ -1,4 +1,4 @@
-use Rattle.std.proofs.Common.{sym, ap, ◌∙◌, arith}
+use Rattle.std.proofs.Common.{ap, arith}
 use Rattle.std.proofs.lemmas.List.{at_drop_all}
 use Rattle.book.specs.Rows.{plant_sum}
 use Rattle.book.proofs.TableLoops.{sum_hit, sum_miss}

@@ -1,4 +1,4 @@
-use Rattle.std.proofs.Common.{◌≡◌, sym, ap, ◌∙◌, arith}
+use Rattle.std.proofs.Common.{arith}
 use Rattle.book.proofs.TableLoops.{energy_within, energy_set}
 use Rattle.book.proofs.table.ContractTable.set_energy.Goals as goal
 

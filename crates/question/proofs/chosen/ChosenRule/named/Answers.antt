@@ -1,4 +1,4 @@
-use Rattle.std.proofs.Common.{◌≡◌, cond, codes, sym, ap, ◌∙◌}
+use Rattle.std.proofs.Common.{◌≡◌, codes, sym, ap, ◌∙◌}
 use Rattle.std.proofs.lemmas.Bool.{cond-true, cond-false}
 use Rattle.std.specs.Str.{bytes_eq}
 use Rattle.question.specs.Naming.{rule_named}

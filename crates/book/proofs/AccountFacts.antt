@@ -1,6 +1,6 @@
 -- Facts on the accounts of the plants. Assumes nothing.
 use Rattle.std.proofs.Common.{◌≡◌, ℕ, zero, suc, ◌+◌, ◌-◌, ◌*◌, ◌<◌, ◌≤◌, true, false, ltb, List, [], ◌∷◌, map, length, get_or, drop, set, replicate, ℤ, pos, ◌+ℤ◌, ◌-ℤ◌, neg_ℤ, nat_abs, ◌≤ℤ◌, ◌<ℤ◌, is_some, Some, None, sum, Option, sym, refl, ap, ◌∙◌, ⊎_elim, arith, length-set}
-use Rattle.std.specs.List.{AllByRecursion as All}
+use Rattle.std.specs.List.{AllByRecursion}
 use Rattle.std.proofs.ByRecursion.{All-get_or, All-set, All-map, All-weaker}
 use Rattle.std.proofs.lemmas.List.{get_or-set_same, get_or-set_other}
 use Rattle.std.proofs.lemmas.Int.{ints}
@@ -27,10 +27,10 @@ account_same p f xs h = get_or-set_same xs (p - 1) (f (account_of p xs)) blank h
 pub account_other : (p q : ℕ) (f : Account → Account) (xs : List Account) → 1 ≤ p → 1 ≤ q → (p ≡ q → ⊥) → account_of p (with_account q f xs) ≡ account_of p xs
 account_other p q f xs hp hq ne = get_or-set_other xs (q - 1) (p - 1) (f (account_of q xs)) blank (λ e. ne (omega arith))
 
-pub fair_at : (p : ℕ) (xs : List Account) → p - 1 < length xs → All Fair xs → Fair (account_of p xs)
+pub fair_at : (p : ℕ) (xs : List Account) → p - 1 < length xs → AllByRecursion Fair xs → Fair (account_of p xs)
 fair_at p xs h a = All-get_or Fair xs (p - 1) blank h a
 
-pub fair_with : (p : ℕ) (f : Account → Account) (xs : List Account) → Fair (f (account_of p xs)) → All Fair xs → All Fair (with_account p f xs)
+pub fair_with : (p : ℕ) (f : Account → Account) (xs : List Account) → Fair (f (account_of p xs)) → AllByRecursion Fair xs → AllByRecursion Fair (with_account p f xs)
 fair_with p f xs h a = All-set Fair xs (p - 1) (f (account_of p xs)) h a
 
 pub length_account : (p : ℕ) (f : Account → Account) (xs : List Account) → length (with_account p f xs) ≡ length xs
@@ -39,7 +39,7 @@ length_account p f xs = length-set xs (p - 1) (f (account_of p xs))
 -- ---- the classes of the contracts' holders
 
 abbrev pub Owned : List Account → List Row → Type 0
-Owned xs rows = All (λ (c : Row). may_be_held (account_of c.plant xs).enrolment c.contract.rank ≡ true) rows
+Owned xs rows = AllByRecursion (λ (c : Row). may_be_held (account_of c.plant xs).enrolment c.contract.rank ≡ true) rows
 
 -- What h reads of each account is the same in both lists.
 abbrev pub Same : {X : Type 0} → (Account → X) → List Account → List Account → Type 0
@@ -166,7 +166,7 @@ head_or_rest : (k : ℕ) (l : List ℕ) → k ≤ 3000000000 → ((i : ℕ) → 
 head_or_rest k l h r zero = h
 head_or_rest k l h r (suc i) = r i
 
-pub claims_each : (xs : List Account) → All Fair xs → (i : ℕ) → get_or (metered_claims xs) i 0 ≤ 3000000000
+pub claims_each : (xs : List Account) → AllByRecursion Fair xs → (i : ℕ) → get_or (metered_claims xs) i 0 ≤ 3000000000
 claims_each [] a i = omega arith
 claims_each (x ∷ xs) a i =
     cond_both (is_enrolled x) (metered_kwh x.reading ∷ metered_claims xs) (metered_claims xs) (λ l. get_or l i 0 ≤ 3000000000)
@@ -300,10 +300,10 @@ fair_turned a f = record {
   known = λ r. absurd (false≢true r);
 }
 
-pub all_turned : (xs : List Account) → All Fair xs → All Fair (map turned xs)
+pub all_turned : (xs : List Account) → AllByRecursion Fair xs → AllByRecursion Fair (map turned xs)
 all_turned xs a = All-map Fair turned xs (All-weaker Fair (λ x. Fair (turned x)) fair_turned xs a)
 
-pub all_blank : (n : ℕ) → All Fair (replicate n blank)
+pub all_blank : (n : ℕ) → AllByRecursion Fair (replicate n blank)
 all_blank zero = tt
 all_blank (suc n) = (fair_blank, all_blank n)
 
@@ -314,17 +314,17 @@ Calm a = Fair (with_side (pos 0) a)
 calm : (a : Account) → Fair a → Calm a
 calm a f = fair_side (pos 0) a (omega arith) f
 
-calm_debited : (xs : List Account) (ps : List ℕ) → All Calm xs → All Calm (debited xs ps)
+calm_debited : (xs : List Account) (ps : List ℕ) → AllByRecursion Calm xs → AllByRecursion Calm (debited xs ps)
 calm_debited [] ps h = tt
 calm_debited (a ∷ xs) ps h =
-    cond_both (is_enrolled a) (side_moved (debit_of (get_or ps 0 0)) a ∷ debited xs (drop 1 ps)) (a ∷ debited xs ps) (All Calm)
+    cond_both (is_enrolled a) (side_moved (debit_of (get_or ps 0 0)) a ∷ debited xs (drop 1 ps)) (a ∷ debited xs ps) (AllByRecursion Calm)
     (λ _. (h.0, calm_debited xs (drop 1 ps) h.1))
     (λ _. (h.0, calm_debited xs ps h.1))
 
-calm_moved : (p : ℕ) (z : ℤ) (xs : List Account) → p - 1 < length xs → All Calm xs → All Calm (with_account p (side_moved z) xs)
+calm_moved : (p : ℕ) (z : ℤ) (xs : List Account) → p - 1 < length xs → AllByRecursion Calm xs → AllByRecursion Calm (with_account p (side_moved z) xs)
 calm_moved p z xs h a = All-set Calm xs (p - 1) (side_moved z (account_of p xs)) (All-get_or Calm xs (p - 1) blank h a) a
 
-fair_again : (xs : List Account) → All Calm xs → any_account is_past_side_limit xs ≡ false → All Fair xs
+fair_again : (xs : List Account) → AllByRecursion Calm xs → any_account is_past_side_limit xs ≡ false → AllByRecursion Fair xs
 fair_again [] a e = tt
 fair_again (x ∷ xs) a e =
     let k = or_parts (is_past_side_limit x) (any_account is_past_side_limit xs) e in
@@ -336,7 +336,7 @@ module _ (shares : List ℕ → ℕ → List ℕ) (p fen : ℕ) (xs : List Accou
   long : p - 1 < length (debited xs (shares (metered_claims xs) fen))
   long = omega (arith, debited_length xs (shares (metered_claims xs) fen))
 
-  pub fair_compensated : All Fair xs → any_account is_past_side_limit (compensated shares p fen xs) ≡ false → All Fair (compensated shares p fen xs)
+  pub fair_compensated : AllByRecursion Fair xs → any_account is_past_side_limit (compensated shares p fen xs) ≡ false → AllByRecursion Fair (compensated shares p fen xs)
   fair_compensated a e =
       let ys = debited xs (shares (metered_claims xs) fen) in
       fair_again (compensated shares p fen xs) (calm_moved p (pos (fen * 1000000)) ys long (calm_debited xs (shares (metered_claims xs) fen) (All-weaker Fair Calm calm xs a))) e

@@ -1,6 +1,6 @@
 -- What the book's checks and questions work out. Assumes nothing.
 use Rattle.std.proofs.Common.{◌≡◌, ℕ, zero, suc, ◌+◌, ◌-◌, ◌*◌, ◌<◌, ◌≤◌, Bool, true, cond, not, ◌&&◌, eqb, ltb, leb, List, [], ◌∷◌, length, get_or, drop, ℤ, pos, negsuc, ◌-ℤ◌, ◌*ℤ◌, neg_ℤ, nat_abs, Some, None, refl, ap, ◌∙◌, mul-le-mul, arith}
-use Rattle.std.specs.List.{AllByRecursion as All}
+use Rattle.std.specs.List.{AllByRecursion}
 use Rattle.std.proofs.lemmas.Int.{ints}
 use Rattle.std.proofs.lemmas.List.{get_or-drop}
 use Rattle.std.proofs.lemmas.Bool.{cond_both, and_parts, or_parts, eqb-true, leb-true, leb-false, ltb-false, not-false}
@@ -118,7 +118,7 @@ compensation_decides f p a b h e =
 pub generated : (f : Ledger) (p : ℕ) (a : Fen) → first_of (before_shares f p a) ≡ None → any_account has_generated f.accounts ≡ true
 generated f p a h = (shared_parts f (passed (before_shares f p a) h).1.1.1.0).1
 
-pub side_bound : (xs : List Account) → All Fair xs → (k : ℕ) → nat_abs (get_or xs k blank).side.count ≤ 300000000000000000
+pub side_bound : (xs : List Account) → AllByRecursion Fair xs → (k : ℕ) → nat_abs (get_or xs k blank).side.count ≤ 300000000000000000
 side_bound [] h k = omega arith
 side_bound (a ∷ xs) h zero = h.0.side
 side_bound (a ∷ xs) h (suc k) = side_bound xs h.1 k

@@ -1,7 +1,7 @@
 -- Every accepted call keeps what every book that exists keeps. Assumes nothing.
 use Rattle.std.proofs.Common.{◌≡◌, ℕ, ◌+◌, ◌-◌, ◌<◌, ◌≤◌, true, false, not, ◌&&◌, eqb, ltb, leb, List, length, ℤ, ◌+ℤ◌, neg_ℤ, nat_abs, is_some, Some, None, sym, refl, ap, ◌∙◌, subst, arith}
 use lib.ListN.{length-map}
-use Rattle.std.specs.List.{AllByRecursion as All}
+use Rattle.std.specs.List.{AllByRecursion}
 use Rattle.std.proofs.lemmas.Bool.{not-false, and_parts, and_from, cond_both, leb-true, leb-false, ltb-false, eqb-false, le-leb}
 use Rattle.units.specs.declared.energy.Energy.{Energy}
 use Rattle.units.specs.declared.money.Fen.{Fen}
@@ -67,7 +67,7 @@ fee_sound f from to z f1 f2 t1 t2 apart more less s =
     let mid = with_account to (side_moved z) xs in
     let same : account_of from mid ≡ account_of from xs = account_other from to (side_moved z) xs f1 t1 (λ e. apart (sym e)) in
     let long : length mid ≡ 24 = length_account to (side_moved z) xs ∙ s.full in
-    let all : All Fair mid = fair_with to (side_moved z) xs (fair_side ((at f to).side.count +ℤ z) (at f to) more (fair_at to xs (omega (arith, s.full)) s.fair)) s.fair in
+    let all : AllByRecursion Fair mid = fair_with to (side_moved z) xs (fair_side ((at f to).side.count +ℤ z) (at f to) more (fair_at to xs (omega (arith, s.full)) s.fair)) s.fair in
     let still : nat_abs ((account_of from mid).side.count +ℤ neg_ℤ z) ≤ 300000000000000000 = subst (λ (a : Account). nat_abs (a.side.count +ℤ neg_ℤ z) ≤ 300000000000000000) (sym same) less in
     record {
       first = s.first;

@@ -1,6 +1,6 @@
 -- The figures of one plant of a sound book: they settle, within the bounds of a net, and rest on no carry. Assumes nothing.
 use Rattle.std.proofs.Common.{◌≡◌, ℕ, zero, suc, ◌-◌, ◌≤◌, true, false, List, [], ◌∷◌, map, get_or, nat_abs, Some, None, Option, sym, refl, ap, ◌∙◌, arith}
-use Rattle.std.specs.List.{AllByRecursion as All}
+use Rattle.std.specs.List.{AllByRecursion}
 use Rattle.std.proofs.ByRecursion.{All-weaker}
 use Rattle.std.proofs.lemmas.Bool.{false≢true, or_from, not_from_true}
 use Rattle.units.specs.Payments.{most_net}
@@ -30,12 +30,12 @@ held_class : (o : Option Enrolment) (r : Rank) → may_be_held o r ≡ true → 
 held_class None r h = absurd (false≢true h)
 held_class (Some e) r h = h
 
-all_held : (class : Class) (cs : List Contract) → All (λ (c : Contract). may_hold class c.rank ≡ true) cs → any_not_held class cs ≡ false
+all_held : (class : Class) (cs : List Contract) → AllByRecursion (λ (c : Contract). may_hold class c.rank ≡ true) cs → any_not_held class cs ≡ false
 all_held class [] a = refl
 all_held class (c ∷ cs) a = or_from _ _ (not_from_true _ a.0) (all_held class cs a.1)
 
 -- A plant that is not enrolled holds no contract, so its class does not matter.
-held_by : (p : ℕ) (xs : List Account) (rows : List Row) → Owned xs rows → All (λ (c : Row). c.plant ≡ p → may_hold (class_in (account_of p xs).enrolment) c.contract.rank ≡ true) rows
+held_by : (p : ℕ) (xs : List Account) (rows : List Row) → Owned xs rows → AllByRecursion (λ (c : Row). c.plant ≡ p → may_hold (class_in (account_of p xs).enrolment) c.contract.rank ≡ true) rows
 held_by p xs [] o = tt
 held_by p xs (c ∷ cs) o =
     (λ q. held_class (account_of p xs).enrolment c.contract.rank (ap (λ n. may_be_held (account_of n xs).enrolment c.contract.rank) (sym q) ∙ o.0), held_by p xs cs o.1)

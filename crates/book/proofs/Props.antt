@@ -8,7 +8,7 @@ use native.Mathlib.Nat.{ℕ_set}
 use lib.Dec.{T_prop}
 use lib.IntN.{ℤ_set}
 use lib.Signed.{le_z, lt_z}
-use Rattle.std.specs.List.{AllByRecursion as All}
+use Rattle.std.specs.List.{AllByRecursion}
 use Rattle.units.specs.declared.price.Price.{Price}
 use Rattle.book.specs.declared.account.Account.{Account}
 use Rattle.book.specs.declared.row.Row.{Row}
@@ -23,7 +23,7 @@ le_z_prop x y p q = λ i. record { le = T_prop (le_z x y) p.le q.le i }
 lt_z_prop : (x y : ℤ) → IsProp (x <ℤ y)
 lt_z_prop x y p q = λ i. record { lt = T_prop (lt_z x y) p.lt q.lt i }
 
-all_prop : {X : Type 0} (P : X → Type 0) → ((x : X) → IsProp (P x)) → (xs : List X) → IsProp (All P xs)
+all_prop : {X : Type 0} (P : X → Type 0) → ((x : X) → IsProp (P x)) → (xs : List X) → IsProp (AllByRecursion P xs)
 all_prop P h [] = Unit-prop
 all_prop P h (x ∷ xs) = ×_prop (h x) (all_prop P h xs)
 

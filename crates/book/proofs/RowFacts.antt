@@ -1,7 +1,7 @@
 -- Facts on lists of contracts in rising number. Assumes nothing.
 use Rattle.std.proofs.Common.{◌≡◌, ℕ, suc, ◌+◌, ◌-◌, ◌<◌, ◌≤◌, true, false, cond, ◌&&◌, eqb, ltb, leb, List, [], ◌∷◌, length, is_some, Some, sym, refl, ap, ◌∙◌, subst, ⊎_elim, arith}
 use lib.ListN.{length-map}
-use Rattle.std.specs.List.{AllByRecursion as All}
+use Rattle.std.specs.List.{AllByRecursion}
 use Rattle.std.proofs.lemmas.Bool.{true≢false, cond-true, cond-false, cond_both, eqb-true, eq-eqb, ne_eqb, lt-ltb, ltb-true, ltb-false, and_parts, and_from, cases_eq}
 use Rattle.units.specs.declared.energy.Energy.{Energy}
 use Rattle.market.specs.declared.figures.Contract.{Contract}
@@ -86,14 +86,14 @@ length_energy n e cs = length-map cs _
 
 -- ---- what holds of each contract
 
-pub all_with : (P : Row → Type 0) (x : Row) (xs : List Row) → P x → All P xs → All P (with_row x xs)
+pub all_with : (P : Row → Type 0) (x : Row) (xs : List Row) → P x → AllByRecursion P xs → AllByRecursion P (with_row x xs)
 all_with P x [] h a = (h, tt)
 all_with P x (c ∷ cs) h a =
-    cond_both (ltb c.number x.number) (c ∷ with_row x cs) (x ∷ c ∷ cs) (All P)
+    cond_both (ltb c.number x.number) (c ∷ with_row x cs) (x ∷ c ∷ cs) (AllByRecursion P)
     (λ _. (a.0, all_with P x cs h a.1))
     (λ _. (h, a))
 
-pub all_energy : (P : Row → Type 0) (n : ℕ) (e : Energy) (xs : List Row) → ((c : Row) → P c → P (at_energy e c)) → All P xs → All P (with_energy n e xs)
+pub all_energy : (P : Row → Type 0) (n : ℕ) (e : Energy) (xs : List Row) → ((c : Row) → P c → P (at_energy e c)) → AllByRecursion P xs → AllByRecursion P (with_energy n e xs)
 all_energy P n e [] k a = tt
 all_energy P n e (c ∷ cs) k a =
     (cond_both (eqb c.number n) (at_energy e c) c P (λ _. k c a.0) (λ _. a.0), all_energy P n e cs k a.1)
@@ -101,7 +101,7 @@ all_energy P n e (c ∷ cs) k a =
 some_inner : {X : Type 0} (x y : X) → Some x ≡ Some y → x ≡ y
 some_inner x y e = cc
 
-found_in : (P : Row → Type 0) (n : ℕ) (xs : List Row) (c : Row) → All P xs → row_of n xs ≡ Some c → P c × (c.number ≡ n)
+found_in : (P : Row → Type 0) (n : ℕ) (xs : List Row) (c : Row) → AllByRecursion P xs → row_of n xs ≡ Some c → P c × (c.number ≡ n)
 found_in P n [] c a f = let z : ◌≡◌ {A = ℕ} 0 1 = cc in absurd (omega arith)
 found_in P n (x ∷ xs) c a f =
     ⊎_elim
@@ -110,10 +110,10 @@ found_in P n (x ∷ xs) c a f =
     (λ q. found_in P n xs c a.1 (sym (cond-false _ (Some x) (row_of n xs) (ne_eqb _ _ q)) ∙ f))
     (cases_eq x.number n)
 
-pub all_found : (P : Row → Type 0) (n : ℕ) (xs : List Row) (c : Row) → All P xs → row_of n xs ≡ Some c → P c
+pub all_found : (P : Row → Type 0) (n : ℕ) (xs : List Row) (c : Row) → AllByRecursion P xs → row_of n xs ≡ Some c → P c
 all_found P n xs c a f = (found_in P n xs c a f).0
 
-nothing : (xs : List Row) → All (λ _. Unit {0}) xs
+nothing : (xs : List Row) → AllByRecursion (λ _. Unit {0}) xs
 nothing [] = tt
 nothing (x ∷ xs) = (tt, nothing xs)
 
@@ -270,9 +270,9 @@ length_contracts p (c ∷ cs) =
     [ true ↦ omega (arith, ih) | false ↦ omega (arith, ih) ]
 
 -- What holds of each contract that plant p holds.
-pub all_contracts : (P : Contract → Type 0) (p : ℕ) (xs : List Row) → All (λ (c : Row). c.plant ≡ p → P c.contract) xs → All P (contracts_of p xs)
+pub all_contracts : (P : Contract → Type 0) (p : ℕ) (xs : List Row) → AllByRecursion (λ (c : Row). c.plant ≡ p → P c.contract) xs → AllByRecursion P (contracts_of p xs)
 all_contracts P p [] a = tt
 all_contracts P p (c ∷ cs) a =
-    cond_both (eqb c.plant p) (c.contract ∷ contracts_of p cs) (contracts_of p cs) (All P)
+    cond_both (eqb c.plant p) (c.contract ∷ contracts_of p cs) (contracts_of p cs) (AllByRecursion P)
     (λ t. (a.0 (eqb-true _ _ t), all_contracts P p cs a.1))
     (λ _. all_contracts P p cs a.1)

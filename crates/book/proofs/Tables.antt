@@ -1,7 +1,7 @@
 -- What a table of conditions that declines nothing tells, and the limits of the calls one by one. Assumes nothing.
 use Rattle.std.proofs.Common.{◌≡◌, ℕ, ◌≤◌, Bool, true, false, cond, not, ◌&&◌, ◌||◌, eqb, ltb, leb, List, [], ◌∷◌, ℤ, pos, negsuc, ◌+ℤ◌, neg_ℤ, nat_abs, is_some, Some, None, Option, sym, refl, ap, ◌∙◌, arith}
 use lib.Signed.{le_z}
-use Rattle.std.specs.List.{AllByRecursion as All}
+use Rattle.std.specs.List.{AllByRecursion}
 use Rattle.std.proofs.lemmas.Bool.{true≢false, false≢true, not-true, not-false, and_parts, or_parts, leb-true, ltb-false, eqb-false}
 use Rattle.units.specs.declared.energy.Energy.{Energy}
 use Rattle.units.specs.declared.price.Price.{Price}
@@ -19,7 +19,7 @@ row_passed true why rest e = let z : ◌≡◌ {A = ℕ} 0 1 = cc in absurd (ome
 row_passed false why rest e = (refl, e)
 
 -- Where a table declines nothing, none of its conditions holds.
-pub passed : {E : Type 0} (t : List (Bool × E)) → first_of t ≡ None → All (λ (r : Bool × E). r.0 ≡ false) t
+pub passed : {E : Type 0} (t : List (Bool × E)) → first_of t ≡ None → AllByRecursion (λ (r : Bool × E). r.0 ≡ false) t
 passed [] e = tt
 passed (r ∷ rest) e = let p = row_passed r.0 r.1 (first_of rest) e in (p.0, passed rest p.1)
 

@@ -1,6 +1,6 @@
 -- What every book that exists keeps. Assumes nothing.
 use Rattle.std.specs.Prelude.{◌≡◌, ℕ, ◌≤◌, true, false, length, pos, ◌≤ℤ◌, ◌<ℤ◌, is_some, unsigned_abs}
-use Rattle.std.specs.List.{AllByRecursion as All}
+use Rattle.std.specs.List.{AllByRecursion}
 use Rattle.units.specs.Payments.{most_net, most_carry}
 use Rattle.book.specs.declared.account.Account.{Account}
 use Rattle.book.specs.declared.row.Row.{Row}
@@ -30,10 +30,10 @@ pub record Sound (f : Ledger) : Type 0 where
   -- contracts in rising number, within their limits, held by enrolled plants of a class that may hold them
   pub rises : rising f.rows ≡ true
   pub few : length f.rows ≤ 256
-  pub each : All (λ c. row_ok c ≡ true) f.rows
-  pub owned : All (λ (c : Row). may_be_held (account_of c.plant f.accounts).enrolment c.contract.rank ≡ true) f.rows
+  pub each : AllByRecursion (λ c. row_ok c ≡ true) f.rows
+  pub owned : AllByRecursion (λ (c : Row). may_be_held (account_of c.plant f.accounts).enrolment c.contract.rank ≡ true) f.rows
   pub sums : (p : ℕ) → plant_sum p f.rows ≤ 3000000000
   -- 24 accounts within their limits, and side balances that add up to zero
   pub full : length f.accounts ≡ 24
-  pub fair : All Fair f.accounts
+  pub fair : AllByRecursion Fair f.accounts
   pub balanced : sides f.accounts ≡ pos 0

@@ -1,6 +1,6 @@
 // The table of 24 accounts. One account is changed at a time, and every other stands as it did.
 ghost use Rattle.std.specs.Prelude.{◌≡◌, ℕ, ◌≤◌, Bool, true, map, length, take, replicate, ◌+ℤ◌, Some, slice_index, slice_index_or, unsigned_abs};
-ghost use Rattle.std.specs.List.{AllByRecursion as All};
+ghost use Rattle.std.specs.List.{AllByRecursion};
 ghost use Rattle.units.specs.Payments.{split, most_net, most_carry};
 ghost use Rattle.book.specs.Accounts.{blank, account_of, with_account, enrolled_as, with_reading, side_moved, issued_at, closed_at, turned, metered_kwh, metered_claims, debited};
 ghost use Rattle.book.specs.Rows.{plant_ok};

@@ -1,6 +1,6 @@
 -- Figures that are not declined. Assumes nothing.
 use Rattle.std.proofs.Common.{◌≡◌, ℕ, ◌+◌, ◌*◌, ◌<◌, ◌≤◌, true, false, not, ◌||◌, ltb, List, [], ◌∷◌, length, get_or, drop, None, sym, refl, ap, ◌∙◌, arith}
-use Rattle.std.specs.List.{AllByRecursion as All}
+use Rattle.std.specs.List.{AllByRecursion}
 use Rattle.std.proofs.lemmas.List.{at_drop_more}
 use Rattle.std.proofs.lemmas.Bool.{ltb-false, le-ltb, or_from, or_left, or_parts, not_from_false}
 use Rattle.std.proofs.lemmas.Bool.Decides.{nat_tests}
@@ -42,7 +42,7 @@ contracted_under (c ∷ cs) h =
     let low = ltb-false 3000000000 c.energy.kwh (or_parts (ltb 3000000000 c.energy.kwh) _ parts.0).0 in
     omega (arith, contracted_under cs parts.1)
 
-prices_under : (cs : List Contract) → any_past cs ≡ false → All (λ (c : Contract). c.price.micro ≤ 1000000) cs
+prices_under : (cs : List Contract) → any_past cs ≡ false → AllByRecursion (λ (c : Contract). c.price.micro ≤ 1000000) cs
 prices_under [] h = tt
 prices_under (c ∷ cs) h =
     let parts = or_parts (contract_past c) (any_past cs) h in (
@@ -70,7 +70,7 @@ admitted p cs n m h =
       grind (arith, nat_tests),
     )
 
-none_past : (cs : List Contract) → All (λ (c : Contract). c.price.micro ≤ 1000000) cs → contracted cs ≤ 3000000000 → any_past cs ≡ false
+none_past : (cs : List Contract) → AllByRecursion (λ (c : Contract). c.price.micro ≤ 1000000) cs → contracted cs ≤ 3000000000 → any_past cs ≡ false
 none_past [] h k = refl
 none_past (c ∷ cs) h k =
     or_from _ _ (or_from _ _ (le-ltb 3000000000 c.energy.kwh (omega arith)) (le-ltb 1000000 c.price.micro h.0)) (none_past cs h.1 (omega arith))

@@ -1,6 +1,6 @@
 -- How large prices, amounts and nets can be. Assumes nothing.
 use Rattle.std.proofs.Common.{ℕ, ◌+◌, ◌*◌, ◌≤◌, ltb, List, [], ◌∷◌, ℤ, pos, nat_abs, sum, ⊎_elim, mul-le-mul, arith, lit≤}
-use Rattle.std.specs.List.{AllByRecursion as All}
+use Rattle.std.specs.List.{AllByRecursion}
 use Rattle.std.proofs.lemmas.Int.{ints}
 use Rattle.std.proofs.lemmas.Bool.{cases_Bool, cond-true, cond-false}
 use Rattle.units.specs.declared.energy.Energy.{Energy}
@@ -50,7 +50,7 @@ same_le n = omega arith
 pub worth_le : (kwh price : ℕ) → price ≤ 1000000 → worth_of kwh price ≤ 100000000 * kwh
 worth_le kwh price h = let m : kwh * 100 * price ≤ kwh * 100 * 1000000 = mul-le-mul (same_le (kwh * 100)) h in omega arith
 
-pub amounts_le : (t : Tariff) (cs : List Contract) (es : List Energy) → Modest t → All (λ (c : Contract). c.price.micro ≤ 1000000) cs → amount_sum t cs es ≤ 100000000 * sum (kwhs es)
+pub amounts_le : (t : Tariff) (cs : List Contract) (es : List Energy) → Modest t → AllByRecursion (λ (c : Contract). c.price.micro ≤ 1000000) cs → amount_sum t cs es ≤ 100000000 * sum (kwhs es)
 amounts_le t [] es m h = omega arith
 amounts_le t (c ∷ cs) [] m h = omega arith
 amounts_le t (c ∷ cs) (e ∷ es) m h =

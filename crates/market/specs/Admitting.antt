@@ -1,6 +1,6 @@
 -- Which figures are declined, and what is known of those that are not. Assumes nothing.
 use Rattle.std.specs.Prelude.{◌≡◌, ℕ, ◌≤◌, Bool, false, not, ◌||◌, List, [], ◌∷◌, length, None, Option, ◌==◌, nat_lt, unsigned_abs}
-use Rattle.std.specs.List.{AllByRecursion as All}
+use Rattle.std.specs.List.{AllByRecursion}
 use Rattle.units.specs.Limits.{side_balance}
 use Rattle.sharing.specs.Declining.{first_of}
 use Rattle.market.specs.declared.figures.Contract.{Contract}
@@ -56,7 +56,7 @@ pub record Sound (p : PlantFigures) (cs : List Contract) : Type 0 where
   pub residential : p.residential.micro ≤ 1000000
   pub approved : p.approved.micro ≤ 1000000
   pub side : unsigned_abs p.side.count ≤ 300000000000000000
-  pub prices : All (λ (c : Contract). c.price.micro ≤ 1000000) cs
+  pub prices : AllByRecursion (λ (c : Contract). c.price.micro ≤ 1000000) cs
   pub held : any_not_held p.class cs ≡ false
   pub few : length cs ≤ 256
   pub whole : contracted cs ≤ 3000000000

@@ -1,6 +1,6 @@
 -- Worked examples of sharing, settlement and payment, as one table. Assumes nothing.
 use Rattle.std.specs.Prelude.{◌≡◌, ℕ, List, [], ◌∷◌, ℤ, pos, negsuc, Some}
-use Rattle.std.specs.List.{AllByRecursion as All}
+use Rattle.std.specs.List.{AllByRecursion}
 use Rattle.units.specs.Fits.{grains}
 use Rattle.units.specs.Payments.{payment_if}
 use Rattle.sharing.specs.Rules.{equal_ratio, in_order}
@@ -102,4 +102,4 @@ table =
     ∷ []
 
 abbrev pub TableHolds : Type 0
-TableHolds = All Holds table
+TableHolds = AllByRecursion Holds table

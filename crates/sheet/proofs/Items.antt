@@ -1,6 +1,6 @@
 -- The items of a section: calls are written back to the bytes that they were read from, and read back from the bytes that they are written as. Assumes nothing.
 use Rattle.std.proofs.Common.{◌≡◌, ℕ, zero, suc, ◌+◌, ◌*◌, ◌<◌, List, [], ◌∷◌, length, take, drop, Some, None, sym, refl, ap, ◌∙◌, subst, suc-mul, zero-mul, arith, take-add}
-use Rattle.std.specs.List.{AllByRecursion as All}
+use Rattle.std.specs.List.{AllByRecursion}
 use Rattle.std.proofs.lemmas.List.{length-append, length-drop, length-take-le, take_all, take_at, drop_at, take-append-drop, nil_from_length}
 use Rattle.std.proofs.ByRecursion.{All-take, All-drop}
 use Rattle.book.specs.declared.call.Call.{Call}
@@ -17,7 +17,7 @@ record Item (k : Kind) (head term : List ℕ) (c : Call) : Type 0 where
   pub kind : kind_for c ≡ Some k
   pub fit : FiguresFit c
 
-item : (k : Kind) (head term : List ℕ) → All (λ b. b < 256) head → All (λ b. b < 256) term → length head ≡ head_size k → length term ≡ term_size k → Item k head term (call_of k head term)
+item : (k : Kind) (head term : List ℕ) → AllByRecursion (λ b. b < 256) head → AllByRecursion (λ b. b < 256) term → length head ≡ head_size k → length term ≡ term_size k → Item k head term (call_of k head term)
 item Enrols head term h t lh lt =
     let h0 : bytes_of 1 (field 0 1 head) ≡ take 1 head = bytes_of_field 0 1 head h (omega arith) in
     let t0 : bytes_of 1 (field 0 1 term) ≡ take 1 term = bytes_of_field 0 1 term t (omega arith) in
@@ -68,10 +68,10 @@ pub record Cut (k : Kind) (n : ℕ) (heads terms : List ℕ) (cs : List Call) : 
   pub heads_are : all_heads cs ≡ heads
   pub terms_are : all_terms cs ≡ terms
   pub count : length cs ≡ n
-  pub kinds : All (λ c. kind_for c ≡ Some k) cs
-  pub fit : All FiguresFit cs
+  pub kinds : AllByRecursion (λ c. kind_for c ≡ Some k) cs
+  pub fit : AllByRecursion FiguresFit cs
 
-pub cut : (k : Kind) (n : ℕ) (heads terms : List ℕ) → All (λ b. b < 256) heads → All (λ b. b < 256) terms → length heads ≡ n * head_size k → length terms ≡ n * term_size k → Cut k n heads terms (calls_in k n heads terms)
+pub cut : (k : Kind) (n : ℕ) (heads terms : List ℕ) → AllByRecursion (λ b. b < 256) heads → AllByRecursion (λ b. b < 256) terms → length heads ≡ n * head_size k → length terms ≡ n * term_size k → Cut k n heads terms (calls_in k n heads terms)
 cut k zero heads terms h t lh lt =
     record {
       heads_are = sym (nil_from_length heads (omega (arith, zero-mul (head_size k))));
@@ -134,7 +134,7 @@ pub record AllBack (cs : List Call) (k : Kind) : Type 0 where
   pub heads_long : length (all_heads cs) ≡ length cs * head_size k
   pub terms_long : length (all_terms cs) ≡ length cs * term_size k
 
-pub all_back : (k : Kind) (cs : List Call) → All (λ c. kind_for c ≡ Some k) cs → All FiguresFit cs → AllBack cs k
+pub all_back : (k : Kind) (cs : List Call) → AllByRecursion (λ c. kind_for c ≡ Some k) cs → AllByRecursion FiguresFit cs → AllBack cs k
 all_back k [] kinds fit = record { are = refl; heads_long = sym (zero-mul (head_size k)); terms_long = sym (zero-mul (term_size k)) }
 all_back k (c ∷ cs) kinds fit =
     let first = back k c kinds.0 fit.0 in

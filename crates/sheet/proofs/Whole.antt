@@ -1,7 +1,7 @@
 -- A whole sheet that was loaded. Assumes nothing.
 use Rattle.std.proofs.Common.{◌≡◌, ℕ, suc, ◌<◌, Bool, true, false, cond, not, ltb, List, [], ◌∷◌, length, get_or, drop, Some, None, Ok, Err, Option, Result, sym, refl, ap, ◌∙◌, subst, arith, w8, Fits}
 use Rattle.std.proofs.lemmas.Bool.{ltb-false}
-use Rattle.std.specs.List.{AllByRecursion as All}
+use Rattle.std.specs.List.{AllByRecursion}
 use Rattle.units.specs.declared.price.Price.{Price}
 use Rattle.sharing.specs.Declining.{answered, placed}
 use Rattle.sharing.proofs.Granted.{was_none}
@@ -23,7 +23,7 @@ use Rattle.sheet.proofs.Sequence.{all_made, fault_of, left_of, run_of}
 use Rattle.sheet.proofs.Writing.{exact_contents}
 
 -- What is read of a slice of bytes fits a byte.
-pub all_bytes : (bytes : List ℕ) → ((i : ℕ) → Fits w8 (get_or bytes i 0)) → All (λ b. b < 256) bytes
+pub all_bytes : (bytes : List ℕ) → ((i : ℕ) → Fits w8 (get_or bytes i 0)) → AllByRecursion (λ b. b < 256) bytes
 all_bytes [] fit = tt
 all_bytes (b ∷ bs) fit = ((fit 0).fits, all_bytes bs (λ i. fit (suc i)))
 
@@ -59,7 +59,7 @@ header_is bytes m q long short em eq =
     ∙ sym (ap (λ x. book_fault 0 0 (open_declined x q)) em ∙ ap (λ x. book_fault 0 0 (open_declined (month_in bytes) x)) eq)
 
 -- A header that opens the book, and then the sections.
-pub loaded : (shares : List ℕ → ℕ → List ℕ) → Lawful shares → (bytes : List ℕ) (n m : ℕ) (q : Price) (f b g : Ledger) (r : Result (Unit {0}) Fault) → All (λ x. x < 256) bytes → ltb 65536 (length bytes) ≡ false → ltb (length bytes) 6 ≡ false → n ≡ section_count bytes → m ≡ month_in bytes → q ≡ residential_in bytes → open_declined m q ≡ None → b ≡ after_open f m q shares → Says r (fault_of b (contents_from n 6 (drop 6 bytes))) → g ≡ left_of b (contents_from n 6 (drop 6 bytes)) → Loaded shares bytes f g r
+pub loaded : (shares : List ℕ → ℕ → List ℕ) → Lawful shares → (bytes : List ℕ) (n m : ℕ) (q : Price) (f b g : Ledger) (r : Result (Unit {0}) Fault) → AllByRecursion (λ x. x < 256) bytes → ltb 65536 (length bytes) ≡ false → ltb (length bytes) 6 ≡ false → n ≡ section_count bytes → m ≡ month_in bytes → q ≡ residential_in bytes → open_declined m q ≡ None → b ≡ after_open f m q shares → Says r (fault_of b (contents_from n 6 (drop 6 bytes))) → g ≡ left_of b (contents_from n 6 (drop 6 bytes)) → Loaded shares bytes f g r
 unfolding load_fault loaded_into
 loaded shares lawful bytes n m q f b g r fit long short en em eq opens eb er eg =
     let start = opened_by shares bytes in

@@ -1,6 +1,6 @@
 -- Whole sheets: a sheet whose sections are all read is byte for byte those sections written out, and two different sheets never have the same bytes. Assumes nothing.
 use Rattle.std.proofs.Common.{◌≡◌, ℕ, zero, suc, ◌+◌, ◌<◌, ◌≤◌, List, [], ◌∷◌, ◌++◌, map, length, take, drop, None, Ok, Err, Result, sym, refl, ap, ◌∙◌, subst, arith, take-add}
-use Rattle.std.specs.List.{AllByRecursion as All}
+use Rattle.std.specs.List.{AllByRecursion}
 use Rattle.std.proofs.lemmas.List.{take-append-drop}
 use Rattle.std.proofs.ByRecursion.{All-drop}
 use Rattle.book.specs.declared.call.Call.{Call}
@@ -50,9 +50,9 @@ went_on (Ok s) more e = (s, refl, e)
 record AllStand (n : ℕ) (rest : List ℕ) (ls : List Listed) : Type 0 where
   pub count : length ls ≡ n
   pub as_written : rest ≡ written_sections ls
-  pub writable : All Writable ls
+  pub writable : AllByRecursion Writable ls
 
-all_stand : (n offset : ℕ) (rest : List ℕ) → All (λ b. b < 256) rest → (contents_from n offset rest).stop ≡ None → AllStand n rest (map listed (contents_from n offset rest).sections)
+all_stand : (n offset : ℕ) (rest : List ℕ) → AllByRecursion (λ b. b < 256) rest → (contents_from n offset rest).stop ≡ None → AllStand n rest (map listed (contents_from n offset rest).sections)
 all_stand zero offset rest small e = record { count = refl; as_written = nothing_left offset rest e; writable = tt }
 all_stand (suc n) offset rest small e =
     let more = contents_from n (offset + size_in rest) (drop (size_in rest) rest) in
@@ -76,7 +76,7 @@ abbrev sheet_in : List ℕ → MonthSheet
 sheet_in bytes = record { month = month_in bytes; residential = residential_in bytes; sections = map listed (contents_of bytes).sections }
 
 -- A sheet with nothing at fault is its bytes, and the calls are those of its sections.
-pub exact_contents : (bytes : List ℕ) → All (λ b. b < 256) bytes → 6 ≤ length bytes → (contents_of bytes).stop ≡ None → (made : List Call) → made ≡ all_calls (contents_of bytes).sections → Exact bytes made
+pub exact_contents : (bytes : List ℕ) → AllByRecursion (λ b. b < 256) bytes → 6 ≤ length bytes → (contents_of bytes).stop ≡ None → (made : List Call) → made ≡ all_calls (contents_of bytes).sections → Exact bytes made
 exact_contents bytes small long e made is =
     let ss = (contents_of bytes).sections in
     let ls = map listed ss in
@@ -103,7 +103,7 @@ exact_contents bytes small long e made is =
 
 -- WRITING
 
-all_again : (offset : ℕ) (ls : List Listed) → All Writable ls → map listed (contents_from (length ls) offset (written_sections ls)).sections ≡ ls
+all_again : (offset : ℕ) (ls : List Listed) → AllByRecursion Writable ls → map listed (contents_from (length ls) offset (written_sections ls)).sections ≡ ls
 all_again offset [] w = refl
 all_again offset (l ∷ ls) w =
     let rest = written_section l ++ written_sections ls in

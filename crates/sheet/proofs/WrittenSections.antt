@@ -1,6 +1,6 @@
 -- One section: it is written back to the bytes that it was read from, and read back from the bytes that it is written as. Assumes nothing.
 use Rattle.std.proofs.Common.{◌≡◌, ℕ, ◌+◌, ◌-◌, ◌*◌, ◌/◌, ◌<◌, ◌≤◌, Bool, false, cond, not, List, [], ◌∷◌, ◌++◌, length, get_or, take, drop, is_some, Some, None, Ok, Option, sym, refl, ap, ◌∙◌, subst, mul-div_cancel, arith}
-use Rattle.std.specs.List.{AllByRecursion as All}
+use Rattle.std.specs.List.{AllByRecursion}
 use Rattle.std.proofs.lemmas.List.{append_assoc, length-append, length-drop, length-take-le, take_at, drop_at, take-append-drop, drop-drop}
 use Rattle.std.proofs.ByRecursion.{All-take, All-drop}
 use Rattle.std.proofs.lemmas.Bool.{ltb-false, le-ltb}
@@ -88,7 +88,7 @@ pub record Stands (rest : List ℕ) (l : Listed) : Type 0 where
   pub as_written : rest ≡ written_section l ++ drop (size_in rest) rest
   pub writable : Writable l
 
-stands_cut : (offset : ℕ) (rest : List ℕ) (k : Kind) → All (λ b. b < 256) rest → 3 ≤ length rest → kind_of (get_or rest 0 0) ≡ Some k → count_in rest ≤ 256 → size_in rest ≤ length rest → Stands rest (listed (cut_out offset rest k))
+stands_cut : (offset : ℕ) (rest : List ℕ) (k : Kind) → AllByRecursion (λ b. b < 256) rest → 3 ≤ length rest → kind_of (get_or rest 0 0) ≡ Some k → count_in rest ≤ 256 → size_in rest ≤ length rest → Stands rest (listed (cut_out offset rest k))
 stands_cut offset rest k small long kind few all =
     let n = count_in rest in
     let body = drop 3 rest in
@@ -120,7 +120,7 @@ stands_cut offset rest k small long kind few all =
     let P : List Call → Type 0 = λ cs. Stands rest (record { kind = k; calls = cs }) in
     subst P (sym are) record { as_written = written; writable = record { kinds = read.kinds; fit = read.fit; few = omega (arith, read.count) } }
 
-pub stands : (offset : ℕ) (rest : List ℕ) (s : Stretches) → All (λ b. b < 256) rest → section_at offset rest ≡ Ok s → Stands rest (listed s)
+pub stands : (offset : ℕ) (rest : List ℕ) (s : Stretches) → AllByRecursion (λ b. b < 256) rest → section_at offset rest ≡ Ok s → Stands rest (listed s)
 unfolding section_at
 stands offset rest s small e =
     let c = was_cut offset rest s (first_of (section_conditions rest)) (kind_of (get_or rest 0 0)) e in
@@ -130,7 +130,7 @@ stands offset rest s small e =
 
 -- WRITING
 
-none_of : {E : Type 0} (t : List (Bool × E)) → All (λ (r : Bool × E). r.0 ≡ false) t → first_of t ≡ None
+none_of : {E : Type 0} (t : List (Bool × E)) → AllByRecursion (λ (r : Bool × E). r.0 ≡ false) t → first_of t ≡ None
 none_of [] h = refl
 none_of (r ∷ rest) h = ap (λ b. cond b (Some r.1) (first_of rest)) h.0 ∙ none_of rest h.1
 

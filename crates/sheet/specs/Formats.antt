@@ -1,6 +1,6 @@
 -- The format of a month sheet: the bytes that are written for its header and sections, and the sections that are read from bytes. Assumes nothing.
 use Rattle.std.specs.Prelude.{◌≡◌, ℕ, zero, suc, ◌+◌, ◌*◌, ◌/◌, ◌%◌, ◌^◌, ◌<◌, ◌≤◌, Bool, cond, not, List, [], ◌∷◌, ◌++◌, length, take, drop, is_some, Some, None, Ok, Err, Option, Result, ◌==◌, nat_lt, slice_index}
-use Rattle.std.specs.List.{AllByRecursion as All}
+use Rattle.std.specs.List.{AllByRecursion}
 use Rattle.units.specs.declared.energy.Energy.{Energy}
 use Rattle.units.specs.declared.price.Price.{Price}
 use Rattle.sharing.specs.Declining.{first_of}
@@ -265,15 +265,15 @@ FiguresFit (Turn q) = Unit {0}
 
 -- A section that can be written: its calls are of its kind, fit their fields, and are at most 256.
 pub record Writable (s : Listed) : Type 0 where
-  pub kinds : All (λ c. kind_for c ≡ Some s.kind) s.calls
-  pub fit : All FiguresFit s.calls
+  pub kinds : AllByRecursion (λ c. kind_for c ≡ Some s.kind) s.calls
+  pub fit : AllByRecursion FiguresFit s.calls
   pub few : length s.calls ≤ 256
 
 pub record WritableSheet (s : MonthSheet) : Type 0 where
   pub month : s.month < 256
   pub residential : s.residential.micro < 2 ^ 32
   pub few : length s.sections < 256
-  pub each : All Writable s.sections
+  pub each : AllByRecursion Writable s.sections
 
 -- An accepted sheet is byte for byte a header and sections written out, and the calls made are those of its sections, in order.
 pub record Exact (bytes : List ℕ) (made : List Call) : Type 0 where

@@ -1,6 +1,6 @@
 -- Loading a sheet issues nothing, and issuing a plant issues no other. Assumes nothing.
 use Rattle.std.proofs.Common.{◌≡◌, ℕ, zero, suc, ◌+◌, ◌-◌, ◌≤◌, true, false, List, [], ◌∷◌, ◌++◌, get_or, replicate, neg_ℤ, is_some, Some, None, Option, sym, refl, ap, ◌∙◌, arith}
-use Rattle.std.specs.List.{AllByRecursion as All}
+use Rattle.std.specs.List.{AllByRecursion}
 use Rattle.std.proofs.ByRecursion.{All-set}
 use Rattle.std.proofs.lemmas.Bool.{true≢false}
 use Rattle.sharing.specs.Declining.{placed}
@@ -28,23 +28,23 @@ use Rattle.statement.specs.Statements.{Unissued}
 abbrev Free : Account → Type 0
 Free a = is_issued a ≡ false
 
-free_at : (xs : List Account) (i : ℕ) → All Free xs → Free (get_or xs i blank)
+free_at : (xs : List Account) (i : ℕ) → AllByRecursion Free xs → Free (get_or xs i blank)
 free_at [] i h = refl
 free_at (x ∷ xs) zero h = h.0
 free_at (x ∷ xs) (suc i) h = free_at xs i h.1
 
-free_with : (p : ℕ) (g : Account → Account) (xs : List Account) → ((a : Account) → Free a → Free (g a)) → All Free xs → All Free (with_account p g xs)
+free_with : (p : ℕ) (g : Account → Account) (xs : List Account) → ((a : Account) → Free a → Free (g a)) → AllByRecursion Free xs → AllByRecursion Free (with_account p g xs)
 free_with p g xs keeps h = All-set Free xs (p - 1) (g (account_of p xs)) (keeps (account_of p xs) (free_at xs (p - 1) h)) h
 
 free_enrolled : (k : Option Class) (q : Price) (a : Account) → Free a → Free (enrolled_as k q a)
 free_enrolled None q a h = h
 free_enrolled (Some k) q a h = h
 
-free_entered : (f : Ledger) (n p : ℕ) (r : Option Rank) (e : Energy) (q : Price) → All Free f.accounts → All Free (entered f n p r e q).accounts
+free_entered : (f : Ledger) (n p : ℕ) (r : Option Rank) (e : Energy) (q : Price) → AllByRecursion Free f.accounts → AllByRecursion Free (entered f n p r e q).accounts
 free_entered f n p None e q h = h
 free_entered f n p (Some r) e q h = h
 
-free_moved : (f : Ledger) (n p : ℕ) (e : Energy) (q : Price) (c : Option Row) → All Free f.accounts → All Free (transferred f n p e q c).accounts
+free_moved : (f : Ledger) (n p : ℕ) (e : Energy) (q : Price) (c : Option Row) → AllByRecursion Free f.accounts → AllByRecursion Free (transferred f n p e q c).accounts
 free_moved f n p e q None h = h
 free_moved f n p e q (Some c) h =
     let fee = fee_for e q c in
@@ -52,7 +52,7 @@ free_moved f n p e q (Some c) h =
     free_with p (side_moved (neg_ℤ fee)) mid (λ a k. k) (free_with c.plant (side_moved fee) f.accounts (λ a k. k) h)
 
 -- The calls of a sheet issue nothing.
-free_accepted : (f : Ledger) (c : Call) → is_some (kind_for c) ≡ true → All Free f.accounts → All Free (accepted f c).accounts
+free_accepted : (f : Ledger) (c : Call) → is_some (kind_for c) ≡ true → AllByRecursion Free f.accounts → AllByRecursion Free (accepted f c).accounts
 free_accepted f (Enrol p k q) h free = free_with p (enrolled_as (class_of k) q) f.accounts (free_enrolled (class_of k) q) free
 free_accepted f (Enter n p k e q) h free = free_entered f n p (rank_of k) e q free
 free_accepted f (Amend n e) h free = absurd (true≢false (sym h))
@@ -63,11 +63,11 @@ free_accepted f (Issue p) h free = absurd (true≢false (sym h))
 free_accepted f (Close p) h free = absurd (true≢false (sym h))
 free_accepted f (Turn q) h free = absurd (true≢false (sym h))
 
-free_by : (why : Option Refusal) (x f : Ledger) → All Free x.accounts → All Free f.accounts → All Free (placed why x f).accounts
+free_by : (why : Option Refusal) (x f : Ledger) → AllByRecursion Free x.accounts → AllByRecursion Free f.accounts → AllByRecursion Free (placed why x f).accounts
 free_by None x f h k = h
 free_by (Some why) x f h k = k
 
-free_left : (f : Ledger) (cs : List Call) → All (λ c. is_some (kind_for c) ≡ true) cs → All Free f.accounts → All Free (left_by f cs).accounts
+free_left : (f : Ledger) (cs : List Call) → AllByRecursion (λ c. is_some (kind_for c) ≡ true) cs → AllByRecursion Free f.accounts → AllByRecursion Free (left_by f cs).accounts
 free_left f [] h free = free
 free_left f (c ∷ cs) h free = free_by (declined f c) (left_by (accepted f c) cs) f (free_left (accepted f c) cs h.1 (free_accepted f c h.0 free)) free
 
@@ -78,19 +78,19 @@ kind_of_lem Enters head term = refl
 kind_of_lem Transfers head term = refl
 kind_of_lem Meters head term = refl
 
-kinds_in : (k : Kind) (n : ℕ) (heads terms : List ℕ) → All (λ c. is_some (kind_for c) ≡ true) (calls_in k n heads terms)
+kinds_in : (k : Kind) (n : ℕ) (heads terms : List ℕ) → AllByRecursion (λ c. is_some (kind_for c) ≡ true) (calls_in k n heads terms)
 kinds_in k zero heads terms = tt
 kinds_in k (suc n) heads terms = (kind_of_lem k _ _, kinds_in k n _ _)
 
-kinds_append : (cs ds : List Call) → All (λ c. is_some (kind_for c) ≡ true) cs → All (λ c. is_some (kind_for c) ≡ true) ds → All (λ c. is_some (kind_for c) ≡ true) (cs ++ ds)
+kinds_append : (cs ds : List Call) → AllByRecursion (λ c. is_some (kind_for c) ≡ true) cs → AllByRecursion (λ c. is_some (kind_for c) ≡ true) ds → AllByRecursion (λ c. is_some (kind_for c) ≡ true) (cs ++ ds)
 kinds_append [] ds h k = k
 kinds_append (c ∷ cs) ds h k = (h.0, kinds_append cs ds h.1 k)
 
-kinds_all : (ss : List Stretches) → All (λ c. is_some (kind_for c) ≡ true) (all_calls ss)
+kinds_all : (ss : List Stretches) → AllByRecursion (λ c. is_some (kind_for c) ≡ true) (all_calls ss)
 kinds_all [] = tt
 kinds_all (s ∷ ss) = kinds_append (calls_of s) (all_calls ss) (kinds_in _ _ _ _) (kinds_all ss)
 
-free_blank : (n : ℕ) → All Free (replicate n blank)
+free_blank : (n : ℕ) → AllByRecursion Free (replicate n blank)
 free_blank zero = tt
 free_blank (suc n) = (refl, free_blank n)
 

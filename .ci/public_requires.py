@@ -25,6 +25,6 @@ def offenders(path):
             yield f"{path}:{number}: {name}"
 
 
-found = [o for p in sorted(pathlib.Path(sys.argv[1]).rglob("*.rt")) for o in offenders(p)]
+found = [o for p in sorted(pathlib.Path(sys.argv[1]).glob("*/src/**/*.rt")) for o in offenders(p)]
 print("\n".join(found))
 sys.exit(1 if found else 0)

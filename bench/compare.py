@@ -10,7 +10,7 @@ import subprocess
 import sys
 import time
 
-PROVED = "target/bin/sheet_cases"
+PROVED = "crates/sheet_cases/out/sheet_cases"
 INDEPENDENT = "bench/independent/target/release/independent"
 ROUNDS = 7
 

@@ -1,4 +1,3 @@
-mod Names
 mod Numbers
 mod Reading
 mod Running

@@ -1,22 +1,28 @@
 -- What the book's checks and questions work out. Assumes nothing.
-use Rattle.std.proofs.Common.{◌≡◌, ℕ, zero, suc, ◌+◌, ◌-◌, ◌*◌, ◌<◌, ◌≤◌, Bool, true, cond, not, ◌&&◌, eqb, ltb, leb, List, [], ◌∷◌, length, get_or, drop, ℤ, pos, negsuc, ◌-ℤ◌, ◌*ℤ◌, neg_ℤ, nat_abs, Some, None, refl, ap, ◌∙◌, mul-le-mul, arith}
+use Rattle.std.proofs.Common.{◌≡◌, ℕ, zero, suc, ◌+◌, ◌-◌, ◌*◌, ◌<◌, ◌≤◌, Bool, true, cond, not, ◌&&◌, ltb, leb, List, [], ◌∷◌, length, get_or, drop, ℤ, pos, negsuc, ◌-ℤ◌, ◌*ℤ◌, neg_ℤ, nat_abs, Some, None, Ok, Result, refl, ap, ◌∙◌, subst, mul-le-mul, arith}
 use Rattle.std.specs.List.{AllByRecursion}
 use Rattle.std.proofs.lemmas.Int.{ints}
 use Rattle.std.proofs.lemmas.List.{get_or-drop}
-use Rattle.std.proofs.lemmas.Bool.{cond_both, and_parts, or_parts, eqb-true, leb-true, leb-false, ltb-false, not-false}
+use Rattle.std.proofs.lemmas.Bool.{cond_both, and_parts, leb-true, leb-false, ltb-false, not-false}
 use Rattle.units.specs.declared.energy.Energy.{Energy}
 use Rattle.units.specs.declared.money.Fen.{Fen}
+use Rattle.units.specs.declared.money.Grains.{Grains}
 use Rattle.units.specs.declared.price.Price.{Price}
+use Rattle.market.specs.declared.figures.Settlement.{Settlement}
 use Rattle.sharing.specs.Declining.{first_of}
 use Rattle.units.specs.Fees.{fee_of}
 use Rattle.book.specs.declared.account.Account.{Account}
+use Rattle.book.specs.declared.call.Call.{Call}
+use Rattle.book.specs.declared.order.Order.{Order}
+use Rattle.book.specs.declared.refusal.Refusal.{Refusal}
 use Rattle.book.specs.declared.refusal.Refusal.TheVariants.{SumPastLimit}
 use Rattle.book.specs.declared.row.Row.{Row}
 use Rattle.book.specs.Accounts.{blank, account_of, is_enrolled, side_moved, any_account, has_generated, is_past_side_limit, debit_of, debited}
 use Rattle.book.specs.declared.call.Call.TheVariants.{Transfer, Compensate}
-use Rattle.book.specs.Calls.{conditions, declined, before_shares, compensated_in, trade_allowed, settle_conditions, settle_declined}
+use Rattle.book.specs.Calls.{Answer, Makes, SettledIn, conditions, declined, before_shares, compensated_in, trade_allowed}
 use Rattle.book.specs.Ledgers.{Ledger}
-use Rattle.book.specs.Rows.{plant_ok, energy_ok, price_ok, row_ok, rising, row_of, with_energy, at_energy, plant_sum, contracts_of, split_rows, split_off}
+use Rattle.book.specs.Orders.{NamesOrder}
+use Rattle.book.specs.Rows.{plant_ok, energy_ok, price_ok, row_ok, rising, row_of, with_energy, at_energy, plant_sum, split_rows, split_off}
 use Rattle.book.specs.Sound.{Sound, Fair}
 use Rattle.book.proofs.AccountFacts.{fair_at}
 use Rattle.book.proofs.RowFacts.{all_found, number_found, share_own, plant_with, plant_energy, plant_energy_other}
@@ -62,14 +68,6 @@ receiver_sum n p e c xs r h apart =
 -- the fair account of a plant
 pub fair_of : (f : Ledger) (p : ℕ) → Sound f → plant_ok p ≡ true → Fair (account_of p f.accounts)
 fair_of f p s ok = let w = plant_parts p ok in fair_at p f.accounts (omega (arith, s.full, w.0, w.1)) s.fair
-
--- ---- a settlement that is not declined
-
-pub settle_facts : (f : Ledger) (p n m : ℕ) → settle_declined f p n m ≡ None → (plant_ok p ≡ true) × (n ≡ length (contracts_of p f.rows)) × (m ≡ length (contracts_of p f.rows))
-settle_facts f p n m h =
-    let t = passed (settle_conditions f p n m) h in
-    let long = or_parts (not (eqb n (length (contracts_of p f.rows)))) (not (eqb m (length (contracts_of p f.rows)))) t.1.1.1.0 in
-    (not-false _ t.0, eqb-true _ _ (not-false _ long.0), eqb-true _ _ (not-false _ long.1))
 
 -- ---- a transfer that is not declined
 
@@ -132,3 +130,14 @@ debited_bound (a ∷ xs) ps h small (suc i) =
     cond_both (is_enrolled a) (side_moved (debit_of (get_or ps 0 0)) a ∷ debited xs (drop 1 ps)) (a ∷ debited xs ps) (λ l. nat_abs (get_or l (suc i) blank).side.count ≤ 400000000000000000)
     (λ _. debited_bound xs (drop 1 ps) (λ k. h (suc k)) (λ k. omega (arith, get_or-drop 1 ps k 0, small (1 + k))) i)
     (λ _. debited_bound xs ps (λ k. h (suc k)) small i)
+
+-- ---- the plant of a call is the one that its number names
+
+pub makes_for : {f g : Ledger} {c d : Call} {a : Answer} → c ≡ d → Makes f c g a → Makes f d g a
+makes_for {f} {g} {c} {d} {a} e m = subst (λ y. Makes f y g a) e m
+
+pub settles_for : {f : Ledger} {p q : ℕ} {before after' : List Energy} {old new : List Grains} {r : Result Settlement Refusal} → p ≡ q → SettledIn f p before after' old new r → SettledIn f q before after' old new r
+settles_for {f} {p} {q} {before} {after'} {old} {new} {r} e m = subst (λ y. SettledIn f y before after' old new r) e m
+
+pub order_call : (order : Order) (n o p : ℕ) (e : Energy) (q : Price) → NamesOrder n o p e q (Ok order) → Transfer order.new order.old order.receiver.number order.energy order.price ≡ Transfer n o p e q
+order_call order n o p e q t = cc (t.0, t.1, t.2, t.3, t.4)

@@ -11,7 +11,6 @@ use Rattle.sharing.specs.Laws as sharing
 use Rattle.sharing.specs.Asked.{compensation_accepted}
 use Rattle.market.specs.Kinds.{class_of, rank_of}
 use Rattle.market.specs.Laws.{Lawful}
-use Rattle.market.specs.Prices.{micro}
 use Rattle.book.specs.declared.account.Account.{Account}
 use Rattle.book.specs.declared.call.Call.{Call}
 use Rattle.book.specs.declared.call.Call.TheVariants.{Enrol, Enter, Amend, Transfer, Meter, Compensate, Issue, Close, Turn}
@@ -271,8 +270,3 @@ accepted_sound f (Compensate p a) lawful s h = compensate_sound f p a lawful s h
 accepted_sound f (Issue p) lawful s h = issue_sound f p lawful s h
 accepted_sound f (Close p) lawful s h = close_sound f p lawful s h
 accepted_sound f (Turn q) lawful s h = turn_sound f q lawful s h
-
--- The figures of a book that was made and not yet opened.
-pub first_sound : (shares : List ℕ → ℕ → List ℕ) → Sound (opened 1 (micro 0) shares)
-unfolding open_within
-first_sound shares = opened_sound 1 (micro 0) shares refl

@@ -1,5 +1,5 @@
 -- The figures of one plant of a sound book: they settle, within the bounds of a net, and rest on no carry. Assumes nothing.
-use Rattle.std.proofs.Common.{◌≡◌, ℕ, zero, suc, ◌-◌, ◌≤◌, true, false, List, [], ◌∷◌, map, get_or, nat_abs, Some, None, Option, sym, refl, ap, ◌∙◌, arith}
+use Rattle.std.proofs.Common.{◌≡◌, ℕ, zero, suc, ◌-◌, ◌≤◌, true, false, List, [], ◌∷◌, map, length, get_or, nat_abs, Some, None, Option, sym, refl, ap, ◌∙◌, arith}
 use Rattle.std.specs.List.{AllByRecursion}
 use Rattle.std.proofs.ByRecursion.{All-weaker}
 use Rattle.std.proofs.lemmas.Bool.{false≢true, or_from, not_from_true}
@@ -57,6 +57,9 @@ plant_sound f p high s =
 
 pub plant_settles : (f : Ledger) (p : ℕ) → p ≤ 24 → Lawful f.shares → Sound f → Settles (plant_in f p) (settled_energies (plant_in f p)) (settlement_of (plant_in f p))
 plant_settles f p high lawful s = settles (plant_in f p) lawful (plant_sound f p high s)
+
+pub few_held : (f : Ledger) (p n : ℕ) → n ≡ length (contracts_of p f.rows) → Sound f → n ≤ 256
+few_held f p n h s = omega (arith, length_contracts p f.rows, s.few)
 
 pub net_bound : (f : Ledger) (p : ℕ) → p ≤ 24 → Lawful f.shares → Sound f → nat_abs (net_of_plant f p) ≤ most_net
 unfolding net_of_plant

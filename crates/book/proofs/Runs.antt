@@ -1,5 +1,5 @@
 -- The law of every run of calls on a book. Assumes nothing.
-use Rattle.std.proofs.Common.{◌≡◌, ℕ, ◌+◌, ◌-◌, ◌≤◌, Bool, true, false, ltb, List, [], ◌∷◌, length, get_or, set, ℤ, pos, ◌+ℤ◌, ◌-ℤ◌, ◌*ℤ◌, nat_abs, is_some, Some, None, Option, sym, refl, ap, ◌∙◌, subst, ⊎_elim, arith, length-set}
+use Rattle.std.proofs.Common.{◌≡◌, ℕ, ◌+◌, ◌-◌, ◌≤◌, Bool, true, false, ltb, List, [], ◌∷◌, length, get_or, set, ℤ, pos, ◌+ℤ◌, ◌-ℤ◌, ◌*ℤ◌, nat_abs, is_some, Some, None, Ok, Err, Option, sym, refl, ap, ◌∙◌, subst, ⊎_elim, arith, length-set}
 use Rattle.std.proofs.lemmas.List.{get_or-set_same, get_or-set_other, get_or-replicate, get_or-map}
 use Rattle.std.proofs.lemmas.Int.{ints}
 use Rattle.std.proofs.lemmas.Bool.{false≢true, true≢false, not-false, and_parts, ltb-false, cases_eq}
@@ -18,12 +18,10 @@ use Rattle.market.specs.Laws.{Lawful, Settles}
 use Rattle.book.specs.declared.account.Account.{Account}
 use Rattle.book.specs.declared.call.Call.{Call}
 use Rattle.book.specs.declared.call.Call.TheVariants.{Enrol, Enter, Amend, Transfer, Meter, Compensate, Issue, Close, Turn}
-use Rattle.book.specs.declared.call.Answer.{Answer}
-use Rattle.book.specs.declared.call.Answer.TheVariants.{Done, Paid, Declined}
 use Rattle.book.specs.declared.refusal.Refusal.{Refusal}
 use Rattle.book.specs.declared.row.Row.{Row}
 use Rattle.book.specs.Accounts.{blank, account_of, with_account, is_issued, enrolled_as, with_reading, issued_at, closed_at, turned}
-use Rattle.book.specs.Calls.{at, open_within, fee_for, conditions, declined, entered, transferred, accepted, said, answer_by, after, answer, Makes}
+use Rattle.book.specs.Calls.{Answer, at, open_within, fee_for, conditions, declined, entered, transferred, accepted, said, answer_by, after, answer, Makes}
 use Rattle.book.specs.Ledgers.{Ledger, opened, plant_in, net_of_plant}
 use Rattle.book.specs.Rows.{plant_ok, row_of, with_energy, energy_in_all}
 use Rattle.book.specs.Sound.{Sound}
@@ -152,9 +150,9 @@ same_shares f (Turn q) = refl
 
 -- What a call pays, 0 where it pays nothing.
 abbrev fen_of : Answer → ℤ
-fen_of Done = pos 0
-fen_of (Paid fen) = fen.count
-fen_of (Declined why) = pos 0
+fen_of (Ok None) = pos 0
+fen_of (Ok (Some fen)) = fen.count
+fen_of (Err why) = pos 0
 
 fed_said : (t : Tally) (b : Ledger) (c : Call) → fed t c (said b c) ≡ fed_accepted t c (fen_of (said b c))
 fed_said t b (Enrol p k q) = refl

@@ -1,26 +1,44 @@
 -- Loops over the contract table, and the places that it finds. Assumes nothing.
-use Rattle.std.proofs.Common.{◌≡◌, ℕ, suc, ◌+◌, ◌<◌, ◌≤◌, Bool, true, false, cond, eqb, ltb, List, [], ◌∷◌, ◌++◌, length, get_or, take, drop, set, is_some, Some, None, sym, refl, ap, ◌∙◌, subst, ⊎_elim, arith}
-use Rattle.std.specs.List.{insert}
-use Rattle.std.proofs.lemmas.List.{at_drop_more, take_more_set, append_assoc}
-use Rattle.std.proofs.lemmas.Bool.{true≢false, cond-true, cond-false, eq-eqb, ne_eqb, lt-ltb, le-ltb, and_parts, and_from, cases_order}
+use Rattle.std.proofs.Common.{◌≡◌, ℕ, zero, suc, ◌+◌, ◌<◌, ◌≤◌, Bool, true, false, cond, eqb, ltb, List, [], ◌∷◌, map, length, get_or, set, is_some, Some, None, sym, refl, ap, ◌∙◌, subst, ⊎_elim, arith}
+use Rattle.std.specs.List.{insert, filter, sum_by, prefix_len}
+use Rattle.std.specs.List.Sorted.{IsPartitionPoint, IsPartitionedBy}
+use Rattle.std.proofs.lemmas.List.Sums.{prefix_len_is, sum_by-cons}
+use Rattle.std.proofs.lemmas.Bool.{true≢false, cond-true, cond-false, eq-eqb, ne_eqb, lt-ltb, ltb-true, le-ltb, and_parts, and_from, cases_order}
 use Rattle.units.specs.declared.energy.Energy.{Energy}
 use Rattle.market.specs.declared.kinds.Rank.TheVariants.{InProvinceMarket}
 use Rattle.book.specs.declared.row.Row.{Row}
 use Rattle.book.proofs.RowFacts.{above_head, above_less, same_above}
 use Rattle.book.specs.Rows.{all_above, rising, row_of, place_of, with_row, with_energy, at_energy, plant_sum, contracts_of}
 
-module _ (n : ℕ) (xs : List Row) (i : ℕ) (d : Row) where
-  pub find_hit : i < length xs → (get_or xs i d).number ≡ n → row_of n (drop i xs) ≡ Some (get_or xs i d)
-  find_hit h e = at_drop_more (row_of n) xs i d h ∙ cond-true _ _ _ (eq-eqb _ _ e)
+-- ---- the place of a number
 
-  pub find_miss : i < length xs → ((get_or xs i d).number ≡ n → ⊥) → row_of n (drop i xs) ≡ row_of n (drop (i + 1) xs)
-  find_miss h e = at_drop_more (row_of n) xs i d h ∙ cond-false _ _ _ (ne_eqb _ _ e)
+blank_row : Row
+blank_row = record { number = 0; plant = 0; contract = record { rank = InProvinceMarket; energy = record { kwh = 0 }; price = record { micro = 0 } } }
 
-  pub place_hit : i < length xs → (get_or xs i d).number < n → place_of n (drop i xs) ≡ suc (place_of n (drop (i + 1) xs))
-  place_hit h e = at_drop_more (place_of n) xs i d h ∙ cond-true _ _ _ (lt-ltb _ _ e)
+above_at : (m : ℕ) (xs : List Row) (k : ℕ) (d : Row) → all_above m xs ≡ true → k < length xs → m < (get_or xs k d).number
+above_at m [] k d a h = absurd (omega arith)
+above_at m (c ∷ cs) zero d a h = (above_head m c cs a).0
+above_at m (c ∷ cs) (suc k) d a h = above_at m cs k d (above_head m c cs a).1 (omega arith)
 
-  pub place_miss : i < length xs → n ≤ (get_or xs i d).number → place_of n (drop i xs) ≡ 0
-  place_miss h e = at_drop_more (place_of n) xs i d h ∙ cond-false _ _ _ (le-ltb _ _ e)
+-- In a rising list the contracts below a number stand before the others.
+pub below_first : (n : ℕ) (xs : List Row) → rising xs ≡ true → IsPartitionedBy (λ (c : Row). ltb c.number n) xs
+below_first n [] r i j d le h t = absurd (omega arith)
+below_first n (c ∷ cs) r zero zero d le h t = t
+below_first n (c ∷ cs) r zero (suc j) d le h t =
+    lt-ltb _ _ (omega (arith, above_at c.number cs j d (and_parts _ _ r).0 (omega arith), ltb-true _ _ t))
+below_first n (c ∷ cs) r (suc i) zero d le h t = absurd (omega arith)
+below_first n (c ∷ cs) r (suc i) (suc j) d le h t = below_first n cs (and_parts _ _ r).1 i j d (omega arith) (omega arith) t
+
+place_prefix : (n : ℕ) (xs : List Row) → place_of n xs ≡ prefix_len (λ (c : Row). ltb c.number n) xs
+place_prefix n [] = refl
+place_prefix n (c ∷ cs) =
+    let ih = place_prefix n cs in
+    elim (ltb c.number n) as (λ b. cond b (suc (place_of n cs)) 0 ≡ cond b (1 + prefix_len (λ (c : Row). ltb c.number n) cs) 0)
+    [ true ↦ omega arith | false ↦ refl ]
+
+pub place_is : (n : ℕ) (xs : List Row) (i : ℕ) → i ≤ length xs → IsPartitionPoint (λ (c : Row). ltb c.number n ≡ true) (λ (c : Row). ltb c.number n ≡ false) xs i → i ≡ place_of n xs
+place_is n xs i h p =
+    sym (place_prefix n xs ∙ prefix_len_is (λ (c : Row). ltb c.number n) xs i blank_row h (λ k l. p.0 k blank_row (omega arith) l) (λ l. p.1 i blank_row (omega arith) l))
 
 pub inserted_is : (x : Row) (xs : List Row) → insert xs (place_of x.number xs) x ≡ with_row x xs
 inserted_is x [] = refl
@@ -82,9 +100,6 @@ standing n e d (c ∷ cs) r f =
     absurd (true≢false (sym f ∙ ap is_some none))))
     (cases_order c.number n)
 
-blank_row : Row
-blank_row = record { number = 0; plant = 0; contract = record { rank = InProvinceMarket; energy = record { kwh = 0 }; price = record { micro = 0 } } }
-
 -- what the code has at the place i that it found, with the contract x that it read there
 module _ (n : ℕ) (e : Energy) (xs : List Row) (r : rising xs ≡ true) (f : is_some (row_of n xs) ≡ true) (i : ℕ) (p : i ≡ place_of n xs) where
   pub energy_within : i < length xs
@@ -93,25 +108,19 @@ module _ (n : ℕ) (e : Energy) (xs : List Row) (r : rising xs ≡ true) (f : is
   pub energy_set : (x : Row) → x ≡ get_or xs i x → set xs i (at_energy e x) ≡ with_energy n e xs
   energy_set x q = ap (λ y. set xs i (at_energy e y)) q ∙ ap (λ j. set xs j (at_energy e (get_or xs j x))) p ∙ (standing n e x xs r f).changed
 
-module _ (p : ℕ) (xs : List Row) (i : ℕ) (d : Row) (h : i < length xs) where
-  pub sum_hit : (get_or xs i d).plant ≡ p → plant_sum p (drop i xs) ≡ (get_or xs i d).contract.energy.kwh + plant_sum p (drop (i + 1) xs)
-  sum_hit e = at_drop_more (plant_sum p) xs i d h ∙ ap (λ n. n + plant_sum p (drop (i + 1) xs)) (cond-true _ _ _ (eq-eqb _ _ e))
+-- ---- a plant's contracts
 
-  pub sum_miss : ((get_or xs i d).plant ≡ p → ⊥) → plant_sum p (drop i xs) ≡ 0 + plant_sum p (drop (i + 1) xs)
-  sum_miss e = at_drop_more (plant_sum p) xs i d h ∙ ap (λ n. n + plant_sum p (drop (i + 1) xs)) (cond-false _ _ _ (ne_eqb _ _ e))
+pub contracts_are : (p : ℕ) (xs : List Row) → contracts_of p xs ≡ map (λ (c : Row). c.contract) (filter (λ (c : Row). eqb c.plant p) xs)
+contracts_are p [] = refl
+contracts_are p (c ∷ cs) =
+    elim (eqb c.plant p) as (λ b. cond b (c.contract ∷ contracts_of p cs) (contracts_of p cs) ≡ map (λ (c : Row). c.contract) (cond b (c ∷ filter (λ (c : Row). eqb c.plant p) cs) (filter (λ (c : Row). eqb c.plant p) cs)))
+    [ true ↦ ap (λ l. c.contract ∷ l) (contracts_are p cs) | false ↦ contracts_are p cs ]
 
--- filling a slice with a plant's contracts
-
-module _ (p : ℕ) (xs : List Row) (i : ℕ) (d : Row) (h : i < length xs) where
-  pub contracts_hit : (get_or xs i d).plant ≡ p → contracts_of p (drop i xs) ≡ (get_or xs i d).contract ∷ contracts_of p (drop (i + 1) xs)
-  contracts_hit e = at_drop_more (contracts_of p) xs i d h ∙ cond-true _ _ _ (eq-eqb _ _ e)
-
-  pub contracts_miss : ((get_or xs i d).plant ≡ p → ⊥) → contracts_of p (drop i xs) ≡ contracts_of p (drop (i + 1) xs)
-  contracts_miss e = at_drop_more (contracts_of p) xs i d h ∙ cond-false _ _ _ (ne_eqb _ _ e)
-
-pub fill_step : {X : Type 0} (out more : List X) (n m : ℕ) (v : X) (rest all : List X) → n < length out → m ≡ n + 1 → more ≡ set out n v → take n out ++ (v ∷ rest) ≡ all → take m more ++ rest ≡ all
-fill_step out more n m v rest all h e o a =
-    ap (λ k. take k more ++ rest) e ∙ ap (λ l. take (n + 1) l ++ rest) o ∙ ap (λ l. l ++ rest) (take_more_set out n v h) ∙ append_assoc (take n out) (v ∷ []) rest ∙ a
-
-pub fill_same : {X : Type 0} (out more : List X) (n m : ℕ) (rest all : List X) → m ≡ n → more ≡ out → take n out ++ rest ≡ all → take m more ++ rest ≡ all
-fill_same out more n m rest all e o a = ap (λ k. take k more ++ rest) e ∙ ap (λ l. take n l ++ rest) o ∙ a
+pub plant_sum_is : (p : ℕ) (xs : List Row) → plant_sum p xs ≡ sum_by (λ (c : Row). c.contract.energy.kwh) (filter (λ (c : Row). eqb c.plant p) xs)
+plant_sum_is p [] = refl
+plant_sum_is p (c ∷ cs) =
+    let ih = plant_sum_is p cs in
+    let own : Row → Bool = λ c. eqb c.plant p in
+    let kwh : Row → ℕ = λ c. c.contract.energy.kwh in
+    elim (eqb c.plant p) as (λ b. cond b c.contract.energy.kwh 0 + plant_sum p cs ≡ sum_by kwh (cond b (c ∷ filter own cs) (filter own cs)))
+    [ true ↦ omega (arith, ih, sum_by-cons kwh c (filter own cs)) | false ↦ omega (arith, ih) ]

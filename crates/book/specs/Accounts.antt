@@ -1,5 +1,6 @@
 -- The accounts of the 24 plants: what stands under a plant's number, and what a call changes there. Assumes nothing.
-use Rattle.std.specs.Prelude.{ℕ, ◌-◌, ◌*◌, Bool, true, false, cond, not, ◌&&◌, ◌||◌, List, [], ◌∷◌, drop, ℤ, pos, ◌+ℤ◌, ◌-ℤ◌, neg_ℤ, is_some, Some, None, Option, nat_lt, slice_index, slice_index_or, slice_set}
+use Rattle.std.specs.Prelude.{ℕ, ◌-◌, ◌*◌, Bool, true, false, cond, not, ◌&&◌, List, [], ◌∷◌, drop, ℤ, pos, ◌+ℤ◌, ◌-ℤ◌, neg_ℤ, is_some, Some, None, Option, nat_lt, slice_index, slice_index_or, slice_set}
+use Rattle.std.specs.List.{list_any}
 use Rattle.units.specs.declared.money.Grains.{Grains}
 use Rattle.units.specs.declared.price.Price.{Price}
 use Rattle.units.specs.Fits.{grains}
@@ -71,8 +72,7 @@ turned a = record { enrolment = a.enrolment; reading = None; side = grains (pos 
 
 -- Some account passes a test.
 abbrev pub any_account : (Account → Bool) → List Account → Bool
-any_account test [] = false
-any_account test (a ∷ xs) = test a || any_account test xs
+any_account test xs = list_any test xs
 
 abbrev pub is_closed : Account → Bool
 is_closed a = a.closed

@@ -17,8 +17,6 @@ use Rattle.book.specs.declared.account.Account.{Account}
 use Rattle.book.specs.declared.account.Reading.{Reading}
 use Rattle.book.specs.declared.call.Call.{Call}
 use Rattle.book.specs.declared.call.Call.TheVariants.{Enrol, Enter, Amend, Transfer, Meter, Compensate, Issue, Close, Turn}
-use Rattle.book.specs.declared.call.Answer.{Answer}
-use Rattle.book.specs.declared.call.Answer.TheVariants.{Done, Paid, Declined}
 use Rattle.book.specs.declared.refusal.Refusal.{Refusal}
 use Rattle.book.specs.declared.refusal.Refusal.TheVariants.{PastLimit, NotEnrolled, NoContract, AlreadyThere, Closed, NotPermitted, TooMuch, Full, SumPastLimit, NotReady, SliceLength}
 use Rattle.book.specs.declared.row.Row.{Row}
@@ -178,21 +176,25 @@ accepted f (Issue p) = with_accounts (with_account p (issued_at (net_of_plant f 
 accepted f (Close p) = with_accounts (with_account p (closed_at (net_of_plant f p)) f.accounts) f
 accepted f (Turn q) = record { month = next_month f.month; residential = q; shares = f.shares; rows = []; accounts = map turned f.accounts }
 
+-- What a call answers: the payment, where it is one that pays, or why it was declined.
+abbrev pub Answer : Type 0
+Answer = Result (Option Fen) Refusal
+
 -- What an accepted call answers.
 abbrev pub said : Ledger → Call → Answer
-said f (Enrol p k q) = Done
-said f (Enter n p k e q) = Done
-said f (Amend n e) = Done
-said f (Transfer n o p e q) = Done
-said f (Meter p m c) = Done
-said f (Compensate p a) = Done
-said f (Issue p) = Paid (split (net_of_plant f p +ℤ (at f p).carry.count)).fen
-said f (Close p) = Done
-said f (Turn q) = Done
+said f (Enrol p k q) = Ok None
+said f (Enter n p k e q) = Ok None
+said f (Amend n e) = Ok None
+said f (Transfer n o p e q) = Ok None
+said f (Meter p m c) = Ok None
+said f (Compensate p a) = Ok None
+said f (Issue p) = Ok (Some (split (net_of_plant f p +ℤ (at f p).carry.count)).fen)
+said f (Close p) = Ok None
+said f (Turn q) = Ok None
 
 abbrev pub answer_by : Option Refusal → Answer → Answer
 answer_by None a = a
-answer_by (Some why) a = Declined why
+answer_by (Some why) a = Err why
 
 -- The figures after a call, and its answer: a declined call changes nothing.
 abbrev pub after : Ledger → Call → Ledger
@@ -208,12 +210,12 @@ pub record Makes (f : Ledger) (c : Call) (g : Ledger) (a : Answer) : Type 0 wher
 
 -- What a call returned, as an answer.
 abbrev pub told : Result (Unit {0}) Refusal → Answer
-told (Ok x) = Done
-told (Err why) = Declined why
+told (Ok x) = Ok None
+told (Err why) = Err why
 
 abbrev pub told_paid : Result Fen Refusal → Answer
-told_paid (Ok fen) = Paid fen
-told_paid (Err why) = Declined why
+told_paid (Ok fen) = Ok (Some fen)
+told_paid (Err why) = Err why
 
 -- Why a call was declined, if it was.
 abbrev pub declined_by : {X : Type 0} → Result X Refusal → Option Refusal

@@ -2,6 +2,8 @@ pub mod Accounts
 pub mod Calls
 pub mod Holds
 pub mod Ledgers
+pub mod Orders
+pub mod Plants
 pub mod Refusals
 pub mod Rows
 pub mod Sound

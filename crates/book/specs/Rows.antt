@@ -1,5 +1,5 @@
 -- Contracts in rising number: which stands under a number, one more, one with another energy. Assumes nothing.
-use Rattle.std.specs.Prelude.{ℕ, suc, ◌+◌, ◌-◌, Bool, true, cond, ◌&&◌, List, [], ◌∷◌, map, Some, None, Option, ◌==◌, nat_le, nat_lt}
+use Rattle.std.specs.Prelude.{ℕ, suc, ◌+◌, ◌-◌, Bool, true, cond, ◌&&◌, List, [], ◌∷◌, map, find, Option, ◌==◌, nat_le, nat_lt}
 use Rattle.units.specs.declared.energy.Energy.{Energy}
 use Rattle.units.specs.declared.price.Price.{Price}
 use Rattle.market.specs.declared.figures.Contract.{Contract}
@@ -29,8 +29,7 @@ rising (c ∷ cs) = all_above c.number cs && rising cs
 
 -- The contract under the number n.
 abbrev pub row_of : ℕ → List Row → Option Row
-row_of n [] = None
-row_of n (c ∷ cs) = cond (c.number == n) (Some c) (row_of n cs)
+row_of n cs = find (λ (c : Row). c.number == n) cs
 
 -- One contract more, before the first that has a higher number.
 abbrev pub with_row : Row → List Row → List Row

@@ -1,5 +1,5 @@
 -- A tally that is kept beside a book, fed with the calls and their answers alone, and the law that every run keeps. Assumes nothing.
-use Rattle.std.specs.Prelude.{◌≡◌, ℕ, ◌+◌, ◌-◌, ◌≤◌, true, false, List, [], ◌∷◌, map, replicate, ℤ, pos, ◌+ℤ◌, ◌*ℤ◌, ◌≤ℤ◌, ◌<ℤ◌, Some, None, Option, slice_index_or, slice_set}
+use Rattle.std.specs.Prelude.{◌≡◌, ℕ, ◌+◌, ◌-◌, ◌≤◌, true, false, List, [], ◌∷◌, map, replicate, ℤ, pos, ◌+ℤ◌, ◌*ℤ◌, ◌≤ℤ◌, ◌<ℤ◌, Some, None, Ok, Err, Option, slice_index_or, slice_set}
 use Rattle.units.specs.declared.price.Price.{Price}
 use Rattle.units.specs.Fits.{grains}
 use Rattle.market.specs.Figures.{settled_energies, settlement_of}
@@ -8,11 +8,9 @@ use Rattle.book.specs.declared.account.Account.{Account}
 use Rattle.book.specs.declared.account.Reading.{Reading}
 use Rattle.book.specs.declared.call.Call.{Call}
 use Rattle.book.specs.declared.call.Call.TheVariants.{Enrol, Enter, Amend, Transfer, Meter, Compensate, Issue, Close, Turn}
-use Rattle.book.specs.declared.call.Answer.{Answer}
-use Rattle.book.specs.declared.call.Answer.TheVariants.{Done, Paid, Declined}
 use Rattle.book.specs.declared.row.Row.{Row}
 use Rattle.book.specs.Accounts.{is_issued, sides}
-use Rattle.book.specs.Calls.{at, accepted, open_within, Makes}
+use Rattle.book.specs.Calls.{Answer, at, accepted, open_within, Makes}
 use Rattle.book.specs.Ledgers.{Ledger, with_accounts, opened, plant_in, net_of_plant}
 use Rattle.book.specs.Rows.{row_of, energy_in_all}
 
@@ -114,9 +112,9 @@ fed_accepted t c fen =
 
 -- A declined call leaves the tally as it was.
 abbrev pub fed : Tally → Call → Answer → Tally
-fed t c Done = fed_accepted t c (pos 0)
-fed t c (Paid fen) = fed_accepted t c fen.count
-fed t c (Declined why) = t
+fed t c (Ok None) = fed_accepted t c (pos 0)
+fed t c (Ok (Some fen)) = fed_accepted t c fen.count
+fed t c (Err why) = t
 
 abbrev pub fed_all : Tally → List Call → List Answer → Tally
 fed_all t [] answers = t

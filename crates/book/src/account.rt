@@ -1,7 +1,7 @@
 // One plant's account, and what a call changes in it.
-ghost use Rattle.std.specs.Prelude.{◌≡◌, ◌≤◌, ◌+ℤ◌, Some, unsigned_abs};
+ghost use Rattle.std.specs.Prelude.{◌≡◌, ◌*◌, ◌≤◌, pos, ◌+ℤ◌, neg_ℤ, Some, unsigned_abs};
 ghost use Rattle.units.specs.Payments.{split, most_net, most_carry};
-ghost use Rattle.book.specs.Accounts.{enrolled_as, with_reading, side_moved, debit_of, issued_at, closed_at, turned as after_turn};
+ghost use Rattle.book.specs.Accounts.{is_unclosed, is_unmetered, metered_kwh, has_generated, is_past_side_limit, enrolled_as, with_reading, side_moved, issued_at, closed_at, turned as after_turn};
 
 use market::Class;
 use units::{Energy, Fen, Grains, Price, pay};
@@ -31,10 +31,46 @@ pub struct Account {
     pub carry: Grains,
     // The net at which this month was issued.
     pub issued: Option<Grains>,
+    // Kept: calls ask whether a plant is issued and whether it is closed each on its own, and a closed plant still holds its net
+    // at issue, so one enum of stages would be matched apart at each place.
     pub closed: bool,
 }
 
 impl Account {
+    // Enrolled and not closed.
+    pub(crate) fn is_unclosed(&self) -> bool
+        ensures { result ≡ is_unclosed self.now }
+    {
+        self.enrolment.is_some() && !self.closed
+    }
+
+    // Enrolled and not metered.
+    pub(crate) fn is_unmetered(&self) -> bool
+        ensures { result ≡ is_unmetered self.now }
+    {
+        self.enrolment.is_some() && self.reading.is_none()
+    }
+
+    // Enrolled, with metered energy above zero.
+    pub(crate) fn has_generated(&self) -> bool
+        ensures { result ≡ has_generated self.now }
+    {
+        self.enrolment.is_some() && self.metered_kwh() > 0
+    }
+
+    pub(crate) fn is_past_side_limit(&self) -> bool
+        ensures { result ≡ is_past_side_limit self.now }
+    {
+        !self.side.within_side_limit()
+    }
+
+    // Zero for a plant that is not yet metered.
+    pub(crate) fn metered_kwh(&self) -> u64
+        ensures { result ≡ metered_kwh self.now.reading }
+    {
+        self.reading.map_or(0, |reading| reading.metered.kwh())
+    }
+
     pub(crate) fn enrol(&mut self, class: Class, approved: Price)
         ensures { self.new ≡ enrolled_as (Some class) approved self.old }
     {
@@ -92,11 +128,18 @@ impl Account {
     }
 }
 
-// A part of a compensation as a debit.
-pub(crate) fn debit(fen: u64) -> Grains
+// An amount of a compensation.
+pub(crate) fn credit(fen: u64) -> Grains
     requires { fen ≤ 100000000 }
-    ensures { result.count ≡ debit_of fen }
+    ensures { result.count ≡ pos (fen * 1000000) }
 {
-    let credit = Fen::from_count(fen as i64).grains().unwrap();
-    credit.checked_neg().unwrap()
+    Fen::from_count(fen as i64).grains().unwrap()
+}
+
+// The same amount, taken.
+pub(crate) fn reversed(amount: Grains) -> Grains
+    requires { unsigned_abs amount.count ≤ 300000000000000000 }
+    ensures { result.count ≡ neg_ℤ amount.count }
+{
+    amount.checked_neg().unwrap()
 }

@@ -22,9 +22,5 @@ pub enum Call {
     Turn(Price),
 }
 
-#[derive(Clone, Copy)]
-pub enum Answer {
-    Done,
-    Paid(Fen),
-    Declined(Refusal),
-}
+// What a call answers: the payment, where it is one that pays, or why it was declined.
+pub type Answer = Result<Option<Fen>, Refusal>;

@@ -1,52 +1,41 @@
 ghost use Rattle.std.specs.Prelude.{◌≡◌};
 ghost use Rattle.book.specs.Refusals.{numbered};
 
+use market::{UnknownClass, UnknownRank};
 use std::fmt;
 
-// Why a call on a book is declined.
+// Why a call on a book is declined, with the number by which the refusal is known in every document and program.
 #[derive(Clone, Copy, PartialEq, Eq, Debug)]
 pub enum Refusal {
     // A figure is outside its limits, or a transfer moves nothing.
-    PastLimit,
+    PastLimit = 1,
     // The plant is not enrolled.
-    NotEnrolled,
+    NotEnrolled = 2,
     // The contract is not in the book.
-    NoContract,
+    NoContract = 3,
     // The plant or the new contract number is there already, or the plant is issued already.
-    AlreadyThere,
+    AlreadyThere = 4,
     // A plant concerned is closed.
-    Closed,
+    Closed = 5,
     // The class may not hold the rank or may not transfer, or the giver is the receiver.
-    NotPermitted,
+    NotPermitted = 6,
     // A transfer above the contract's energy, or more commissioning than metered energy.
-    TooMuch,
+    TooMuch = 7,
     // 256 contracts stand.
-    Full,
+    Full = 8,
     // A plant's contract sum or side balance would be past its limit.
-    SumPastLimit,
+    SumPastLimit = 9,
     // The plant is not metered, not issued or not closed, or nothing was metered.
-    NotReady,
+    NotReady = 10,
     // A slice has not the length that is asked for.
-    SliceLength,
+    SliceLength = 11,
 }
 
 impl Refusal {
     pub fn number(self) -> u8
         ensures { result ≡ numbered self }
     {
-        match self {
-            Refusal::PastLimit => 1,
-            Refusal::NotEnrolled => 2,
-            Refusal::NoContract => 3,
-            Refusal::AlreadyThere => 4,
-            Refusal::Closed => 5,
-            Refusal::NotPermitted => 6,
-            Refusal::TooMuch => 7,
-            Refusal::Full => 8,
-            Refusal::SumPastLimit => 9,
-            Refusal::NotReady => 10,
-            Refusal::SliceLength => 11,
-        }
+        self as u8
     }
 
     fn meaning(self) -> &'static str {
@@ -77,8 +66,27 @@ impl Refusal {
 // The number, and what it means.
 impl fmt::Display for Refusal {
     fn fmt<W: fmt::Write>(&self, f: &mut fmt::Formatter<W>) -> fmt::Result {
-        let number = self.number();
-        let meaning = self.meaning();
-        write!(f, "{number}: {meaning}")
+        write!(f, "{}: {}", self.number(), self.meaning())
+    }
+}
+
+// A number that names no class is a figure outside its limits, and so is one that names no rank.
+impl From<UnknownClass> for Refusal {
+    ghost use Rattle.book.specs.declared.refusal.Refusal.TheVariants.{PastLimit};
+
+    ghost from_gives = { λ _ why. why ≡ PastLimit };
+
+    fn from(_unknown: UnknownClass) -> Refusal {
+        Refusal::PastLimit
+    }
+}
+
+impl From<UnknownRank> for Refusal {
+    ghost use Rattle.book.specs.declared.refusal.Refusal.TheVariants.{PastLimit};
+
+    ghost from_gives = { λ _ why. why ≡ PastLimit };
+
+    fn from(_unknown: UnknownRank) -> Refusal {
+        Refusal::PastLimit
     }
 }

@@ -3,106 +3,99 @@ use anyhow::anyhow;
 use book::Call;
 use question::ChosenRule;
 use std::alloc::{AllocError, Global};
+use std::error::Error;
+use std::str::FromStr;
 use units::{Energy, Fen, Price};
 
-pub fn words_of<'a>(heap: Global, line: &'a str) -> Result<Vec<&'a str>, AllocError> {
-    let mut words = Vec::new(heap);
-    for word in line.split(' ') {
-        words.push(word)?;
+// The words of a line: what it asks for, and figures.
+#[derive(Drop)]
+pub struct Words<'a> {
+    words: Vec<&'a str>,
+}
+
+impl<'a> Words<'a> {
+    pub fn of_line(heap: Global, line: &'a str) -> Result<Words<'a>, AllocError> {
+        let words = line.split(' ').collect(heap)?;
+        Ok(Words { words })
     }
-    Ok(words)
-}
 
-fn word<'a>(words: &[&'a str], i: usize) -> anyhow::Result<&'a str> {
-    match words.get(i) {
-        Some(word) => Ok(*word),
-        None => Err(anyhow!("a line has too few figures")),
+    pub fn name(&self) -> &'a str {
+        self.words.first().copied().unwrap_or("")
     }
-}
 
-pub fn figure(words: &[&str], i: usize) -> anyhow::Result<u64> {
-    Ok(word(words, i)?.parse::<u64>()?)
-}
-
-pub fn byte(words: &[&str], i: usize) -> anyhow::Result<u8> {
-    Ok(word(words, i)?.parse::<u8>()?)
-}
-
-fn contract(words: &[&str], i: usize) -> anyhow::Result<u32> {
-    Ok(word(words, i)?.parse::<u32>()?)
-}
-
-pub fn energy(words: &[&str], i: usize) -> anyhow::Result<Energy> {
-    Ok(Energy::from_kwh(figure(words, i)?))
-}
-
-pub fn price(words: &[&str], i: usize) -> anyhow::Result<Price> {
-    Ok(Price::from_micro_yuan(contract(words, i)?))
-}
-
-fn fen(words: &[&str], i: usize) -> anyhow::Result<Fen> {
-    Ok(Fen::from_count(word(words, i)?.parse::<i64>()?))
-}
-
-pub fn rule(words: &[&str], i: usize) -> anyhow::Result<ChosenRule> {
-    match ChosenRule::named(word(words, i)?.as_bytes()) {
-        Some(rule) => Ok(rule),
-        None => Err(anyhow!("a rule is neither equal-ratio nor in-order")),
+    fn word(&self, i: usize) -> anyhow::Result<&'a str> {
+        let word = self.words.get(i).copied();
+        word.ok_or_else(|| anyhow!("a line has too few figures"))
     }
-}
 
-// The call that a line asks for; none where it asks for something else.
-pub fn call_of(words: &[&str]) -> anyhow::Result<Option<Call>> {
-    let name = word(words, 0)?;
-    let call = if name == "enrol" {
-        Call::Enrol(byte(words, 1)?, byte(words, 2)?, price(words, 3)?)
-    } else if name == "enter" {
-        entry(words)?
-    } else if name == "amend" {
-        Call::Amend(contract(words, 1)?, energy(words, 2)?)
-    } else if name == "transfer" {
-        transfer(words)?
-    } else if name == "meter" {
-        Call::Meter(byte(words, 1)?, energy(words, 2)?, energy(words, 3)?)
-    } else {
-        return later_call_of(words);
-    };
-    Ok(Some(call))
-}
+    pub fn figure<T: FromStr>(&self, i: usize) -> anyhow::Result<T>
+    where
+        T::Err: Error,
+    {
+        Ok(self.word(i)?.parse::<T>()?)
+    }
 
-fn entry(words: &[&str]) -> anyhow::Result<Call> {
-    Ok(Call::Enter(
-        contract(words, 1)?,
-        byte(words, 2)?,
-        byte(words, 3)?,
-        energy(words, 4)?,
-        price(words, 5)?,
-    ))
-}
+    // The figures from a word on.
+    pub fn figures(&self, heap: Global, first: usize) -> anyhow::Result<Vec<u64>> {
+        let mut figures = Vec::new(heap);
+        for word in self.words.iter().skip(first) {
+            figures.push(word.parse::<u64>()?)?;
+        }
+        Ok(figures)
+    }
 
-fn transfer(words: &[&str]) -> anyhow::Result<Call> {
-    Ok(Call::Transfer(
-        contract(words, 1)?,
-        contract(words, 2)?,
-        byte(words, 3)?,
-        energy(words, 4)?,
-        price(words, 5)?,
-    ))
-}
+    pub fn energy(&self, i: usize) -> anyhow::Result<Energy> {
+        Ok(Energy::from_kwh(self.figure(i)?))
+    }
 
-// The calls that pay and end a month.
-fn later_call_of(words: &[&str]) -> anyhow::Result<Option<Call>> {
-    let name = word(words, 0)?;
-    let call = if name == "compensate" {
-        Call::Compensate(byte(words, 1)?, fen(words, 2)?)
-    } else if name == "issue" {
-        Call::Issue(byte(words, 1)?)
-    } else if name == "close" {
-        Call::Close(byte(words, 1)?)
-    } else if name == "turn" {
-        Call::Turn(price(words, 1)?)
-    } else {
-        return Ok(None);
-    };
-    Ok(Some(call))
+    pub fn price(&self, i: usize) -> anyhow::Result<Price> {
+        Ok(Price::from_micro_yuan(self.figure(i)?))
+    }
+
+    fn fen(&self, i: usize) -> anyhow::Result<Fen> {
+        Ok(Fen::from_count(self.figure(i)?))
+    }
+
+    pub fn rule(&self, i: usize) -> anyhow::Result<ChosenRule> {
+        let rule = ChosenRule::try_from(self.word(i)?.as_bytes());
+        rule.map_err(|_| anyhow!("a rule is neither equal-ratio nor in-order"))
+    }
+
+    // The call that the line asks for; none where it asks for something else.
+    pub fn call(&self) -> anyhow::Result<Option<Call>> {
+        let call = match self.name() {
+            "enrol" => Call::Enrol(self.figure(1)?, self.figure(2)?, self.price(3)?),
+            "enter" => self.entry()?,
+            "amend" => Call::Amend(self.figure(1)?, self.energy(2)?),
+            "transfer" => self.transfer()?,
+            "meter" => Call::Meter(self.figure(1)?, self.energy(2)?, self.energy(3)?),
+            "compensate" => Call::Compensate(self.figure(1)?, self.fen(2)?),
+            "issue" => Call::Issue(self.figure(1)?),
+            "close" => Call::Close(self.figure(1)?),
+            "turn" => Call::Turn(self.price(1)?),
+            _ => return Ok(None),
+        };
+        Ok(Some(call))
+    }
+
+    // Kept: entry and transfer make calls whose figures have other types, so neither can be the other.
+    fn entry(&self) -> anyhow::Result<Call> {
+        Ok(Call::Enter(
+            self.figure(1)?,
+            self.figure(2)?,
+            self.figure(3)?,
+            self.energy(4)?,
+            self.price(5)?,
+        ))
+    }
+
+    fn transfer(&self) -> anyhow::Result<Call> {
+        Ok(Call::Transfer(
+            self.figure(1)?,
+            self.figure(2)?,
+            self.figure(3)?,
+            self.energy(4)?,
+            self.price(5)?,
+        ))
+    }
 }

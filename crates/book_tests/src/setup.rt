@@ -14,10 +14,7 @@ pub(crate) fn micro(count: u32) -> Price {
 
 // The number of the refusal, or 0 where the call was accepted.
 pub(crate) fn number<T: Drop>(answer: Result<T, Refusal>) -> u8 {
-    match answer {
-        Ok(_) => 0,
-        Err(why) => why.number(),
-    }
+    answer.err().map_or(0, Refusal::number)
 }
 
 // A book in January with two hydro plants, 1 and 2.
@@ -40,11 +37,9 @@ pub(crate) fn net(book: &Book<EqualRatio>, plant: u8) -> Result<i64, Refusal> {
     let mut energies = [Energy::from_kwh(0); 2];
     let mut amounts = [Grains::from_count(0); 2];
     let n = book.contract_count(plant);
-    if n > 2 {
-        return Err(Refusal::SliceLength);
-    }
-    let settlement = book.settle(plant, &mut energies[0..n], &mut amounts[0..n])?;
-    Ok(settlement.net.count())
+    let energies = energies.get_mut(..n).ok_or(Refusal::SliceLength)?;
+    let amounts = amounts.get_mut(..n).ok_or(Refusal::SliceLength)?;
+    Ok(book.settle(plant, energies, amounts)?.net.count())
 }
 
 // Meters a plant at nothing, issues it and closes it.

@@ -6,9 +6,8 @@ use Rattle.units.specs.declared.price.Price.{Price}
 use Rattle.sharing.specs.Declining.{placed}
 use Rattle.market.specs.Laws.{Lawful}
 use Rattle.book.specs.declared.call.Call.{Call}
-use Rattle.book.specs.declared.call.Answer.{Answer}
 use Rattle.book.specs.declared.refusal.Refusal.TheVariants.{PastLimit}
-use Rattle.book.specs.Calls.{Makes, open_within, open_declined, after_open}
+use Rattle.book.specs.Calls.{Answer, Makes, open_within, open_declined, after_open}
 use Rattle.book.specs.Ledgers.{Ledger, opened}
 use Rattle.book.specs.Tallies.{Run}
 use Rattle.book.specs.Tallies.Run.{none, then}

@@ -7,10 +7,9 @@ use Rattle.book.specs.declared.account.Enrolment.{Enrolment}
 use Rattle.book.specs.declared.account.Reading.{Reading}
 use Rattle.book.specs.declared.call.Call.{Call}
 use Rattle.book.specs.declared.call.Call.TheVariants.{Enrol, Meter, Issue}
-use Rattle.book.specs.declared.call.Answer.{Answer}
 use Rattle.book.specs.declared.refusal.Refusal.{Refusal}
 use Rattle.book.specs.declared.refusal.Refusal.TheVariants.{PastLimit, SliceLength}
-use Rattle.book.specs.Calls.{open_within, open_declined, declined_by}
+use Rattle.book.specs.Calls.{Answer, open_within, open_declined, declined_by}
 use Rattle.book.specs.Ledgers.{Ledger, opened}
 use Rattle.book.specs.Tallies.{Run, Keeps, fed_all, tally_opened}
 

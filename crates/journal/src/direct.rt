@@ -2,7 +2,6 @@
 ghost use Rattle.book.specs.Holds.{ledger_of};
 ghost use Rattle.journal.specs.Replays.{first_calls, MonthMade};
 
-use crate::calls::{answered, answered_paid};
 use book::{Answer, Book, Enrolment, Reading, Refusal};
 use sharing::Share;
 use units::Price;
@@ -20,8 +19,12 @@ pub fn one_month<R: Share + Drop>(
     ensures { MonthMade (R.Share.shares rule) month residential (first_calls plant enrolment reading) (ledger_of R.Share.shares book.old) (ledger_of R.Share.shares book.new) result }
 {
     book.open(month, residential, rule)?;
-    let enrolled = book.enrol(plant, enrolment.class.number(), enrolment.approved);
+    let enrolled = book.enrol(plant, u8::from(enrolment.class), enrolment.approved);
     let metered = book.meter(plant, reading.metered, reading.commissioning);
     let issued = book.issue(plant);
-    Ok([answered(enrolled), answered(metered), answered_paid(issued)])
+    Ok([
+        enrolled.map(|()| None),
+        metered.map(|()| None),
+        issued.map(Some),
+    ])
 }

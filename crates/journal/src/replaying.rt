@@ -45,6 +45,7 @@ fn make_all<R: Share>(book: &mut Book<R>, calls: &[Call], answers: &mut [Answer]
     requires { length answers.old ≡ length calls.now }
     ensures { Run (ledger_of R.Share.shares book.old) calls.now answers.new (ledger_of R.Share.shares book.new) }
 {
+    // Kept: by index, since a proof knows nothing of what a zip with answers.iter_mut() wrote.
     for (i, call) in calls.iter().enumerate() {
         answers[i] = make(book, *call);
     }

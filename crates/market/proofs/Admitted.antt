@@ -1,39 +1,25 @@
 -- Figures that are not declined. Assumes nothing.
-use Rattle.std.proofs.Common.{◌≡◌, ℕ, ◌+◌, ◌*◌, ◌<◌, ◌≤◌, true, false, not, ◌||◌, ltb, List, [], ◌∷◌, length, get_or, drop, None, sym, refl, ap, ◌∙◌, arith}
+use Rattle.std.proofs.Common.{◌≡◌, ℕ, ◌+◌, ◌*◌, ◌≤◌, false, ltb, List, [], ◌∷◌, length, sum_by, None, sym, refl, ap, ◌∙◌, arith}
 use Rattle.std.specs.List.{AllByRecursion}
-use Rattle.std.proofs.lemmas.List.{at_drop_more}
-use Rattle.std.proofs.lemmas.Bool.{ltb-false, le-ltb, or_from, or_left, or_parts, not_from_false}
+use Rattle.std.proofs.lemmas.List.Sums.{sum_by-cons}
+use Rattle.std.proofs.lemmas.Bool.{ltb-false, le-ltb, or_from, or_parts}
 use Rattle.std.proofs.lemmas.Bool.Decides.{nat_tests}
 use Rattle.market.specs.declared.figures.Contract.{Contract}
 use Rattle.market.specs.declared.figures.PlantFigures.{PlantFigures}
-use Rattle.market.specs.declared.kinds.Class.{Class}
 use Rattle.market.specs.declared.kinds.Rank.TheVariants.{InterProvincePriority}
-use Rattle.market.specs.Admitting.{plant_past, contract_past, any_past, any_not_held, settle_declined, Sound, SoundAccepted}
+use Rattle.market.specs.Admitting.{plant_past, contract_past, any_past, settle_declined, Sound, SoundAccepted}
 use Rattle.market.specs.Dividing.{energy}
 use Rattle.market.specs.Figures.{contracted}
-use Rattle.market.specs.Kinds.{may_hold}
 use Rattle.market.specs.Prices.{micro}
 
 -- what stands past the end of a list of contracts
 abbrev pub blank : Contract
 blank = record { rank = InterProvincePriority; energy = energy 0; price = micro 0 }
 
--- the loops over contracts: found, and passed
-pub past_at : (cs : List Contract) (i : ℕ) → i < length cs → contract_past (get_or cs i blank) ≡ true → any_past (drop i cs) ≡ true
-past_at cs i h e = at_drop_more any_past cs i blank h ∙ or_left _ _ e
-
-pub past_not : (cs : List Contract) (i : ℕ) → i < length cs → contract_past (get_or cs i blank) ≡ false → any_past (drop (i + 1) cs) ≡ any_past (drop i cs)
-past_not cs i h e = sym (at_drop_more any_past cs i blank h ∙ ap (λ b. b || any_past (drop (i + 1) cs)) e)
-
-pub not_held_at : (class : Class) (cs : List Contract) (i : ℕ) → i < length cs → may_hold class (get_or cs i blank).rank ≡ false → any_not_held class (drop i cs) ≡ true
-not_held_at class cs i h e = at_drop_more (any_not_held class) cs i blank h ∙ or_left _ _ (not_from_false _ e)
-
-pub held_at : (class : Class) (cs : List Contract) (i : ℕ) → i < length cs → may_hold class (get_or cs i blank).rank ≡ true → any_not_held class (drop (i + 1) cs) ≡ any_not_held class (drop i cs)
-held_at class cs i h e =
-    sym (at_drop_more (any_not_held class) cs i blank h ∙ ap (λ b. not b || any_not_held class (drop (i + 1) cs)) e)
-
-pub contracted_drop : (cs : List Contract) (i : ℕ) → i < length cs → contracted (drop i cs) ≡ (get_or cs i blank).energy.kwh + contracted (drop (i + 1) cs)
-contracted_drop cs i h = at_drop_more contracted cs i blank h
+-- the energy of all contracts, as the library adds it up
+pub contracted_is : (cs : List Contract) → contracted cs ≡ sum_by (λ (c : Contract). c.energy.kwh) cs
+contracted_is [] = refl
+contracted_is (c ∷ cs) = ap (λ n. c.energy.kwh + n) (contracted_is cs) ∙ sym (sum_by-cons (λ (x : Contract). x.energy.kwh) c cs)
 
 pub contracted_under : (cs : List Contract) → any_past cs ≡ false → contracted cs ≤ length cs * 3000000000
 contracted_under [] h = omega arith

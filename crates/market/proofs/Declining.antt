@@ -1,29 +1,25 @@
 -- Questions that are declined or not. Assumes nothing.
-use Rattle.std.proofs.Common.{◌≡◌, ℕ, ◌+◌, ◌*◌, ◌<◌, ◌≤◌, true, false, ◌||◌, ltb, List, [], ◌∷◌, length, get_or, drop, Some, None, Err, sum, Option, sym, ap, ◌∙◌, arith}
-use Rattle.std.proofs.lemmas.List.{at_drop_more}
-use Rattle.std.proofs.lemmas.Bool.{lt-ltb, le-ltb, ltb-false, or_left, or_parts}
+use Rattle.std.proofs.Common.{◌≡◌, ℕ, ◌*◌, ◌≤◌, false, ◌||◌, ltb, refl, List, [], ◌∷◌, length, None, sum, Option, Result, IsOk, sym, ap, ◌∙◌, subst, arith}
+use Rattle.std.specs.List.{list_any}
+use Rattle.std.proofs.lemmas.Bool.{ltb-false, or_parts}
 use Rattle.std.proofs.lemmas.Bool.Decides.{nat_tests}
 use Rattle.units.specs.declared.energy.Energy.{Energy}
 use Rattle.sharing.specs.Questions.{any_above}
-use Rattle.market.specs.Dividing.{energy, kwhs, divide_declined}
+use Rattle.market.specs.Dividing.{kwhs, divide_declined}
 use Rattle.sharing.specs.Declining.{answered}
 use Rattle.market.proofs.Filling.{sum_cons}
 
--- what is not declined answers no refusal
-pub never_refused : {X E : Type 0} (why : Option E) (e : E) (x : X) → Err e ≡ answered why x → why ≡ None → ⊥
-never_refused None e x h n = let z : ◌≡◌ {A = ℕ} 0 1 = cc in omega arith
-never_refused (Some why) e x h n = let z : ◌≡◌ {A = ℕ} 0 1 = cc in omega arith
+-- what is not declined is answered
+pub is_answered : {X E : Type 0} (r : Result X E) (why : Option E) (x : X) → r ≡ answered why x → why ≡ None → IsOk r
+is_answered r why x e n = subst IsOk (sym (e ∙ ap (λ w. answered w x) n)) refl
 
 pub same_pair : {X Y : Type 0} (p q : X × Y) → p.0 ≡ q.0 → p.1 ≡ q.1 → p ≡ q
 same_pair p q e f = ap (λ x. (x, p.1)) e ∙ ap (λ y. (q.0, y)) f
 
--- a loop that looks for an energy above a limit: found, passed, and at the end
-pub above_at : (m : ℕ) (es : List Energy) (i : ℕ) → i < length es → m < (get_or es i (energy 0)).kwh → any_above m (kwhs (drop i es)) ≡ true
-above_at m es i h e = at_drop_more (λ l. any_above m (kwhs l)) es i (energy 0) h ∙ or_left _ _ (lt-ltb _ _ e)
-
-pub above_past : (m : ℕ) (es : List Energy) (i : ℕ) → i < length es → (get_or es i (energy 0)).kwh ≤ m → any_above m (kwhs (drop (i + 1) es)) ≡ any_above m (kwhs (drop i es))
-above_past m es i h e =
-    sym (at_drop_more (λ l. any_above m (kwhs l)) es i (energy 0) h ∙ ap (λ b. b || any_above m (kwhs (drop (i + 1) es))) (le-ltb _ _ e))
+-- an energy above a limit, as the library looks for it
+pub above_is : (m : ℕ) (es : List Energy) → any_above m (kwhs es) ≡ list_any (λ (e : Energy). ltb m e.kwh) es
+above_is m [] = refl
+above_is m (e ∷ es) = ap (λ b. ltb m e.kwh || b) (above_is m es)
 
 sum_under : (m : ℕ) (xs : List ℕ) → any_above m xs ≡ false → sum xs ≤ length xs * m
 sum_under m [] h = omega arith

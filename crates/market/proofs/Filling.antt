@@ -102,11 +102,3 @@ fill_more left claims places i p v h k e is =
 pub fill_all : (left : ℕ) (claims places : List Energy) (i : ℕ) → length claims ≤ i → length places ≤ i → take i places ++ energies (taken left (kwhs (drop i claims))) ≡ places
 fill_all left claims places i h k =
     ap (λ l. take i places ++ l) (at_drop_all (λ l. energies (taken left (kwhs l))) claims i h) ∙ places_all places i k
-
--- one value more at the front of a list
-pub front_more : {X : Type 0} (out new : List X) (n m : ℕ) (v : X) (rest all : List X) → n < length out → m ≡ n + 1 → new ≡ set out n v → take n out ++ (v ∷ rest) ≡ all → take m new ++ rest ≡ all
-front_more out new n m v rest all h e is same =
-    ap (λ k. take k new ++ rest) e ∙ ap (λ l. take (n + 1) l ++ rest) is ∙ places_more out n v rest h ∙ same
-
-pub front_same : {X : Type 0} (out new : List X) (n m : ℕ) (rest all : List X) → m ≡ n → new ≡ out → take n out ++ rest ≡ all → take m new ++ rest ≡ all
-front_same out new n m rest all e is same = ap (λ k. take k new ++ rest) e ∙ ap (λ l. take n l ++ rest) is ∙ same

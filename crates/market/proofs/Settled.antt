@@ -9,6 +9,7 @@ use Rattle.market.specs.declared.figures.Contract.{Contract}
 use Rattle.market.specs.declared.kinds.Rank.{Rank}
 use Rattle.market.specs.declared.kinds.Rank.TheVariants.{InterProvincePriority, InterProvinceMarket, Commissioning, Retained, Aluminium, InProvincePriority, InProvinceMarket}
 use Rattle.market.specs.declared.tariff.Tariff.{Tariff}
+use Rattle.market.specs.Accounts.{Payable}
 use Rattle.market.specs.Admitting.{Sound}
 use Rattle.market.specs.Dealing.{laid_all, Covered}
 use Rattle.market.specs.Dividing.{energy, kwhs, left_over, unfilled, Filled}
@@ -181,23 +182,22 @@ concluded_is f t k paid commissioning left missing s =
     ∙ ap (λ x. concluded f.plant (tariff_in f) (contracted f.contracts) (pos (amount_sum (tariff_in f) f.contracts (settled_energies f))) (rank_part f 3) x missing) s.over
     ∙ ap (λ x. concluded f.plant (tariff_in f) (contracted f.contracts) (pos (amount_sum (tariff_in f) f.contracts (settled_energies f))) (rank_part f 3) (left_over f.plant.metered.kwh (claims_in f)) x) s.fifth
 
-pub steps_paid : (f : Figures) (t : Tariff) (k : ℕ) (paid : ℤ) (commissioning left missing : ℕ) → Steps f t k paid commissioning left missing → Lawful f.shares → Sound f.plant f.contracts → nat_abs paid ≤ 300000000000000000
-steps_paid f t k paid commissioning left missing s lawful sound = omega (arith, ap nat_abs s.sold, paid_le f lawful sound)
-
-pub steps_commissioning : (f : Figures) (t : Tariff) (k : ℕ) (paid : ℤ) (commissioning left missing : ℕ) → Steps f t k paid commissioning left missing → Lawful f.shares → Sound f.plant f.contracts → worth_of commissioning t.commissioning.micro ≤ 300000000000000000
-steps_commissioning f t k paid commissioning left missing s lawful sound =
-    let same = ap (λ n. worth_of n t.commissioning.micro) s.third ∙ ap (λ (x : Tariff). worth_of (rank_part f 3) x.commissioning.micro) s.tariff in
-    omega (arith, same, paid_le f lawful sound)
-
-pub steps_over : (f : Figures) (t : Tariff) (k : ℕ) (paid : ℤ) (commissioning left missing : ℕ) → Steps f t k paid commissioning left missing → Lawful f.shares → Sound f.plant f.contracts → worth_of left t.over_generation.micro ≤ 300000000000000000
-steps_over f t k paid commissioning left missing s lawful sound =
-    let same = ap (λ n. worth_of n t.over_generation.micro) s.over ∙ ap (λ (x : Tariff). worth_of (left_over f.plant.metered.kwh (claims_in f)) x.over_generation.micro) s.tariff in
-    omega (arith, same, paid_le f lawful sound)
-
-pub steps_fit : (f : Figures) (t : Tariff) (k : ℕ) (paid : ℤ) (commissioning left missing : ℕ) → Steps f t k paid commissioning left missing → Sound f.plant f.contracts → assessment_of t f.plant.metered.kwh k missing ≤ 300000000000000000
-steps_fit f t k paid commissioning left missing s sound =
+-- and so 64 bits hold what the last step comes to
+pub payable : (f : Figures) (t : Tariff) (k : ℕ) (paid : ℤ) (commissioning left missing : ℕ) → Steps f t k paid commissioning left missing → Lawful f.shares → Sound f.plant f.contracts → Payable f.plant t k paid commissioning left missing
+payable f t k paid commissioning left missing s lawful sound =
     let m = f.plant.metered.kwh in
-    let same =
+    let all = paid_le f lawful sound in
+    let third = ap (λ n. worth_of n t.commissioning.micro) s.third ∙ ap (λ (x : Tariff). worth_of (rank_part f 3) x.commissioning.micro) s.tariff in
+    let over = ap (λ n. worth_of n t.over_generation.micro) s.over ∙ ap (λ (x : Tariff). worth_of (left_over m (claims_in f)) x.over_generation.micro) s.tariff in
+    let held =
     ap (λ (x : Tariff). assessment_of x m k missing) s.tariff ∙ ap (λ n. assessment_of (tariff_in f) m n missing) s.contracts
     ∙ ap (assessment_of (tariff_in f) m (contracted f.contracts)) s.fifth in
-    omega (arith, same, held_back_le f sound)
+    record {
+      metered = sound.metered;
+      contracted = omega (arith, s.contracts, sound.whole);
+      sold = omega (arith, ap nat_abs s.sold, all);
+      commissioned = omega (arith, third, all);
+      generated = omega (arith, over, all);
+      held_back = omega (arith, held, held_back_le f sound);
+      side = sound.side;
+    }

@@ -1,6 +1,6 @@
 -- Which figures are declined, and what is known of those that are not. Assumes nothing.
 use Rattle.std.specs.Prelude.{◌≡◌, ℕ, ◌≤◌, Bool, false, not, ◌||◌, List, [], ◌∷◌, length, None, Option, ◌==◌, nat_lt, unsigned_abs}
-use Rattle.std.specs.List.{AllByRecursion}
+use Rattle.std.specs.List.{AllByRecursion, list_any}
 use Rattle.units.specs.Limits.{side_balance}
 use Rattle.sharing.specs.Declining.{first_of}
 use Rattle.market.specs.declared.figures.Contract.{Contract}
@@ -29,13 +29,11 @@ abbrev pub contract_past : Contract → Bool
 contract_past c = nat_lt 3000000000 c.energy.kwh || nat_lt 1000000 c.price.micro
 
 abbrev pub any_past : List Contract → Bool
-any_past [] = false
-any_past (c ∷ cs) = contract_past c || any_past cs
+any_past cs = list_any contract_past cs
 
 -- the class may not hold some contract
 abbrev pub any_not_held : Class → List Contract → Bool
-any_not_held class [] = false
-any_not_held class (c ∷ cs) = not (may_hold class c.rank) || any_not_held class cs
+any_not_held class cs = list_any (λ (c : Contract). not (may_hold class c.rank)) cs
 
 -- why a settlement is declined, if it is, with so many places for energies and for amounts: the first that holds
 unfoldable pub settle_declined : PlantFigures → List Contract → ℕ → ℕ → Option Refusal

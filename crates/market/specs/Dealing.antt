@@ -14,6 +14,11 @@ laid n [] parts es = []
 laid n (c ∷ cs) parts [] = []
 laid n (c ∷ cs) parts (e ∷ es) = cond (of_rank n c) (energy (slice_index parts 0) ∷ laid n cs (drop 1 parts) es) (e ∷ laid n cs parts es)
 
+-- the parts of some ranks laid out, rank by rank
+abbrev pub laid_ranks : (ℕ → List ℕ) → List Contract → List Rank → List Energy → List Energy
+laid_ranks parts cs [] es = es
+laid_ranks parts cs (r ∷ rs) es = laid_ranks parts cs rs (laid (rank_number r) cs (parts (rank_number r)) es)
+
 -- the parts of every rank that has contracts laid out, rank by rank
 abbrev pub laid_all : (ℕ → List ℕ) → List Contract → List Energy → List Energy
 laid_all parts cs es =

@@ -1,9 +1,12 @@
 -- The numbers of classes and ranks, what a class may do, and the season of a month. Assumes nothing.
-use Rattle.std.specs.Prelude.{◌≡◌, ℕ, Bool, true, false, cond, ◌&&◌, ◌||◌, Some, None, Option, ◌==◌, nat_le, nat_lt}
+use Rattle.std.specs.Prelude.{◌≡◌, ℕ, Bool, true, false, cond, ◌&&◌, ◌||◌, Some, None, Option, Result, ◌==◌, nat_le, nat_lt}
+use Rattle.std.specs.Option.{ok_or}
 use Rattle.market.specs.declared.kinds.Class.{Class}
 use Rattle.market.specs.declared.kinds.Class.TheVariants.{Hydro, Coal, Gas, Renewable, PovertyRelief}
 use Rattle.market.specs.declared.kinds.Rank.{Rank}
 use Rattle.market.specs.declared.kinds.Rank.TheVariants.{InterProvincePriority, InterProvinceMarket, Commissioning, Retained, Aluminium, InProvincePriority, InProvinceMarket}
+use Rattle.market.specs.declared.kinds.UnknownClass.{UnknownClass}
+use Rattle.market.specs.declared.kinds.UnknownRank.{UnknownRank}
 use Rattle.market.specs.declared.kinds.Season.{Season}
 use Rattle.market.specs.declared.kinds.Season.TheVariants.{Wet, Dry, Level}
 
@@ -35,6 +38,13 @@ rank_of n =
     (cond (n == 3) (Some Commissioning)
     (cond (n == 4) (Some Retained)
     (cond (n == 5) (Some Aluminium) (cond (n == 6) (Some InProvincePriority) (cond (n == 7) (Some InProvinceMarket) None))))))
+
+-- the class or the rank that a number names, or an error that holds the number
+abbrev pub class_from : ℕ → Result Class UnknownClass
+class_from n = ok_or (class_of n) (record { 0 = n })
+
+abbrev pub rank_from : ℕ → Result Rank UnknownRank
+rank_from n = ok_or (rank_of n) (record { 0 = n })
 
 abbrev pub is_hydro : Class → Bool
 is_hydro Hydro = true

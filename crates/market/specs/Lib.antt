@@ -1,3 +1,4 @@
+pub mod Accounts
 pub mod Admitting
 pub mod Dealing
 pub mod Dividing

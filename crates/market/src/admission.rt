@@ -1,107 +1,92 @@
 // Which figures of a plant's month are declined.
-ghost use Rattle.std.specs.Prelude.{◌≡◌, ◌^◌, ◌<◌};
-ghost use Rattle.market.specs.Admitting.{energies_past, prices_past, money_past, plant_past, contract_past, any_past, any_not_held, settle_declined};
-ghost use Rattle.market.specs.Figures.{contracted};
-ghost use Rattle.sharing.specs.Declining.{answered};
+ghost use Rattle.std.specs.Prelude.{◌≡◌, ◌^◌, ◌<◌, Some, None, IfOk, IfErr, sum_by};
+ghost use Rattle.market.specs.Admitting.{plant_past, contract_past, any_past, any_not_held, settle_declined};
+ghost use Rattle.market.specs.declared.figures.Contract.{Contract};
 
 use crate::figures::{Contract, PlantFigures};
 use crate::kinds::Class;
+use crate::month::Month;
 use crate::refusal::Refusal;
 use units::Energy;
 
 // A book holds at most so many contracts.
 pub const MOST_CONTRACTS: usize = 256;
 
-fn energies_past_limit(plant: PlantFigures) -> bool
-    ensures { result ≡ energies_past plant }
-{
-    !plant.metered.within_limit() || !plant.commissioning.within_limit()
+impl PlantFigures {
+    // Whether a figure of the plant is outside its limits.
+    #[tactic(auto, unfolding(crate::specs::Admitting::plant_past))]
+    fn past_limit(self) -> bool
+        ensures { result ≡ plant_past self }
+    {
+        !self.metered.within_limit()
+            || !self.commissioning.within_limit()
+            || !self.residential.within_limit()
+            || !self.approved.within_limit()
+            || !self.side.within_side_limit()
+    }
 }
 
-fn prices_past_limit(plant: PlantFigures) -> bool
-    ensures { result ≡ prices_past plant }
-{
-    !plant.residential.within_limit() || !plant.approved.within_limit()
-}
-
-fn money_past_limit(plant: PlantFigures) -> bool
-    ensures { result ≡ money_past plant }
-{
-    prices_past_limit(plant) || !plant.side.within_side_limit()
-}
-
-fn plant_past_limit(plant: PlantFigures) -> bool
-    ensures { result ≡ plant_past plant }
-{
-    energies_past_limit(plant) || money_past_limit(plant)
-}
-
-fn past_limit(contract: Contract) -> bool
-    ensures { result ≡ contract_past contract }
-{
-    !contract.energy.within_limit() || !contract.price.within_limit()
+impl Contract {
+    // Whether a figure of the contract is outside its limits.
+    fn past_limit(self) -> bool
+        ensures { result ≡ contract_past self }
+    {
+        !self.energy.within_limit() || !self.price.within_limit()
+    }
 }
 
 fn any_past_limit(contracts: &[Contract]) -> bool
     ensures { result ≡ any_past contracts.now }
 {
-    for contract in contracts {
-        if past_limit(*contract) {
-            return true;
-        }
-    }
-    false
+    contracts.iter().any(|contract| contract.past_limit())
 }
 
 fn any_not_held(class: Class, contracts: &[Contract]) -> bool
     ensures { result ≡ any_not_held class contracts.now }
 {
-    for contract in contracts {
-        if !class.may_hold(contract.rank) {
-            return true;
-        }
-    }
-    false
+    contracts
+        .iter()
+        .any(|contract| !class.may_hold(contract.rank))
 }
 
 // The energy of all contracts.
 pub(crate) fn total_energy(contracts: &[Contract]) -> Energy
-    requires { contracted contracts.now < 2 ^ 64 }
-    ensures { result.kwh ≡ contracted contracts.now }
+    requires { sum_by (λ (c : Contract). c.energy.kwh) contracts.now < 2 ^ 64 }
+    ensures { result.kwh ≡ sum_by (λ (c : Contract). c.energy.kwh) contracts.now }
 {
-    let mut total = 0;
-    for contract in contracts {
-        total += contract.energy.kwh();
-    }
-    Energy::from_kwh(total)
+    Energy::from_kwh(contracts.iter().map(|contract| contract.energy.kwh()).sum())
 }
 
-// Declines figures that are no plant's month, and slices that are not as long as the contracts.
-pub(crate) fn admit(
-    plant: PlantFigures,
-    contracts: &[Contract],
-    energies: usize,
-    amounts: usize,
-) -> Result<(), Refusal>
-    ensures { result ≡ answered (settle_declined plant contracts.now energies amounts) tt }
-{
-    if plant_past_limit(plant) || any_past_limit(contracts) {
-        return Err(Refusal::PastLimit);
+impl<'a> Month<'a> {
+    // Declines figures that are no plant's month, and slices that are not as long as the contracts.
+    pub(crate) fn admit(
+        plant: PlantFigures,
+        contracts: &'a [Contract],
+        energies: usize,
+        amounts: usize,
+    ) -> Result<Month<'a>, Refusal>
+        ensures declined { IfErr result (λ why. settle_declined plant contracts.now energies amounts ≡ Some why) }
+        ensures admitted { IfOk result (λ month. settle_declined plant contracts.now energies amounts ≡ None) }
+        ensures same { IfOk result (λ month. (month.plant ≡ plant) × (month.contracts.now ≡ contracts.now)) }
+    {
+        if plant.past_limit() || any_past_limit(contracts) {
+            return Err(Refusal::PastLimit);
+        }
+        if any_not_held(plant.class, contracts) {
+            return Err(Refusal::NotHeld);
+        }
+        if plant.commissioning.kwh() > plant.metered.kwh() {
+            return Err(Refusal::AboveMeter);
+        }
+        if contracts.len() > MOST_CONTRACTS {
+            return Err(Refusal::TooManyContracts);
+        }
+        if !total_energy(contracts).within_limit() {
+            return Err(Refusal::ContractSum);
+        }
+        if energies != contracts.len() || amounts != contracts.len() {
+            return Err(Refusal::SliceLength);
+        }
+        Ok(Month { plant, contracts })
     }
-    if any_not_held(plant.class, contracts) {
-        return Err(Refusal::NotHeld);
-    }
-    if plant.commissioning.kwh() > plant.metered.kwh() {
-        return Err(Refusal::AboveMeter);
-    }
-    if contracts.len() > MOST_CONTRACTS {
-        return Err(Refusal::TooManyContracts);
-    }
-    if !total_energy(contracts).within_limit() {
-        return Err(Refusal::ContractSum);
-    }
-    if energies != contracts.len() || amounts != contracts.len() {
-        return Err(Refusal::SliceLength);
-    }
-    Ok(())
 }

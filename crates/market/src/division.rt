@@ -1,6 +1,7 @@
 // The division of metered energy over the seven ranks.
-ghost use Rattle.std.specs.Prelude.{◌≡◌, ◌^◌, ◌<◌, min, length, sum};
-ghost use Rattle.sharing.specs.Questions.{any_above};
+ghost use Rattle.std.specs.Prelude.{◌≡◌, ◌^◌, ◌<◌, min, length, sum, nat_lt};
+ghost use Rattle.std.specs.List.{list_any};
+ghost use Rattle.units.specs.declared.energy.Energy.{Energy};
 ghost use Rattle.market.specs.Dividing.{energy, energies, kwhs, divided, left_over, unfilled, divide_declined, Divided};
 ghost use Rattle.sharing.specs.Declining.{answered};
 
@@ -11,14 +12,9 @@ use units::Energy;
 pub const RANKS: usize = 7;
 
 fn any_past_limit(claims: &[Energy]) -> bool
-    ensures { result ≡ any_above 3000000000 (kwhs claims.now) }
+    ensures { result ≡ list_any (λ (e : Energy). nat_lt 3000000000 e.kwh) claims.now }
 {
-    for claim in claims {
-        if !claim.within_limit() {
-            return true;
-        }
-    }
-    false
+    claims.iter().any(|claim| !claim.within_limit())
 }
 
 // What a claim gets of what is left.
@@ -38,6 +34,7 @@ pub(crate) fn fill(metered: Energy, claims: &[Energy], parts: &mut [Energy]) -> 
 {
     let mut left = metered.kwh();
     let mut missing = 0;
+    // Kept: by index, since of what is written through a zip with iter_mut a proof learns nothing.
     for (i, claim) in claims.iter().enumerate() {
         let part = part_of(left, *claim);
         let taken = part.kwh();

@@ -1,4 +1,6 @@
 // The figures of one plant's month, and what its settlement answers.
+ghost use Rattle.std.specs.Prelude.{◌≡◌};
+
 use crate::kinds::{Class, Rank, Season};
 use units::{Energy, Grains, Hundredths, Price};
 
@@ -7,6 +9,19 @@ pub struct Contract {
     pub rank: Rank,
     pub energy: Energy,
     pub price: Price,
+}
+
+// A contract of no energy: what an `ArrayVec` holds in its unused places.
+impl Default for Contract {
+    ghost is_default = { λ c. c.energy.kwh ≡ 0 };
+
+    fn default() -> Contract {
+        Contract {
+            rank: Rank::InProvinceMarket,
+            energy: Energy::from_kwh(0),
+            price: Price::from_micro_yuan(0),
+        }
+    }
 }
 
 #[derive(Clone, Copy, PartialEq, Eq, Debug)]

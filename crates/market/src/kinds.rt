@@ -1,6 +1,9 @@
 // The classes of plants, the ranks of energy and the seasons.
 ghost use Rattle.std.specs.Prelude.{◌≡◌};
-ghost use Rattle.market.specs.Kinds.{class_number, class_of, rank_number, rank_of, may_hold, may_transfer, season_of};
+ghost use Rattle.market.specs.Kinds.{class_number, class_from, rank_number, rank_from, may_hold, may_transfer, season_of};
+
+use std::error::Error;
+use std::fmt;
 
 #[derive(Clone, Copy, PartialEq, Eq, Debug)]
 pub enum Class {
@@ -33,24 +36,36 @@ pub enum Season {
     Level,
 }
 
-impl Class {
-    pub fn from_number(number: u8) -> Option<Class>
-        ensures { result ≡ class_of number }
-    {
+// A number that names no class.
+#[derive(Clone, Copy, PartialEq, Eq, Debug)]
+pub struct UnknownClass(pub u8);
+
+// A number that names no rank.
+#[derive(Clone, Copy, PartialEq, Eq, Debug)]
+pub struct UnknownRank(pub u8);
+
+impl TryFrom<u8> for Class {
+    type Error = UnknownClass;
+
+    ghost try_from_gives = { λ number answer. answer ≡ class_from number };
+
+    fn try_from(number: u8) -> Result<Class, UnknownClass> {
         match number {
-            1 => Some(Class::Hydro),
-            2 => Some(Class::Coal),
-            3 => Some(Class::Gas),
-            4 => Some(Class::Renewable),
-            5 => Some(Class::PovertyRelief),
-            _ => None,
+            1 => Ok(Class::Hydro),
+            2 => Ok(Class::Coal),
+            3 => Ok(Class::Gas),
+            4 => Ok(Class::Renewable),
+            5 => Ok(Class::PovertyRelief),
+            _ => Err(UnknownClass(number)),
         }
     }
+}
 
-    pub fn number(self) -> u8
-        ensures { result ≡ class_number self }
-    {
-        match self {
+impl From<Class> for u8 {
+    ghost from_gives = { λ class number. number ≡ class_number class };
+
+    fn from(class: Class) -> u8 {
+        match class {
             Class::Hydro => 1,
             Class::Coal => 2,
             Class::Gas => 3,
@@ -58,7 +73,17 @@ impl Class {
             Class::PovertyRelief => 5,
         }
     }
+}
 
+impl fmt::Display for UnknownClass {
+    fn fmt<W: fmt::Write>(&self, f: &mut fmt::Formatter<W>) -> fmt::Result {
+        write!(f, "no class has the number {}", self.0)
+    }
+}
+
+impl Error for UnknownClass {}
+
+impl Class {
     // Whether a plant of the class may hold contracts of a rank.
     pub fn may_hold(self, rank: Rank) -> bool
         ensures { result ≡ may_hold self rank }
@@ -87,26 +112,30 @@ impl Class {
     }
 }
 
-impl Rank {
-    pub fn from_number(number: u8) -> Option<Rank>
-        ensures { result ≡ rank_of number }
-    {
+impl TryFrom<u8> for Rank {
+    type Error = UnknownRank;
+
+    ghost try_from_gives = { λ number answer. answer ≡ rank_from number };
+
+    fn try_from(number: u8) -> Result<Rank, UnknownRank> {
         match number {
-            1 => Some(Rank::InterProvincePriority),
-            2 => Some(Rank::InterProvinceMarket),
-            3 => Some(Rank::Commissioning),
-            4 => Some(Rank::Retained),
-            5 => Some(Rank::Aluminium),
-            6 => Some(Rank::InProvincePriority),
-            7 => Some(Rank::InProvinceMarket),
-            _ => None,
+            1 => Ok(Rank::InterProvincePriority),
+            2 => Ok(Rank::InterProvinceMarket),
+            3 => Ok(Rank::Commissioning),
+            4 => Ok(Rank::Retained),
+            5 => Ok(Rank::Aluminium),
+            6 => Ok(Rank::InProvincePriority),
+            7 => Ok(Rank::InProvinceMarket),
+            _ => Err(UnknownRank(number)),
         }
     }
+}
 
-    pub fn number(self) -> u8
-        ensures { result ≡ rank_number self }
-    {
-        match self {
+impl From<Rank> for u8 {
+    ghost from_gives = { λ rank number. number ≡ rank_number rank };
+
+    fn from(rank: Rank) -> u8 {
+        match rank {
             Rank::InterProvincePriority => 1,
             Rank::InterProvinceMarket => 2,
             Rank::Commissioning => 3,
@@ -118,8 +147,17 @@ impl Rank {
     }
 }
 
+impl fmt::Display for UnknownRank {
+    fn fmt<W: fmt::Write>(&self, f: &mut fmt::Formatter<W>) -> fmt::Result {
+        write!(f, "no rank has the number {}", self.0)
+    }
+}
+
+impl Error for UnknownRank {}
+
 impl Season {
     // The season of a month, from 1 to 12.
+    // Kept: a month has a season and is none, so this is no TryFrom.
     pub fn of_month(month: u8) -> Option<Season>
         ensures { result ≡ season_of month }
     {

@@ -1,34 +1,27 @@
 ghost use Rattle.std.specs.Prelude.{◌≡◌};
 ghost use Rattle.market.specs.Refusals.{numbered};
 
-// Why a question is declined.
+// Why a question is declined, with the number by which the refusal is known in every document and program.
 #[derive(Clone, Copy, PartialEq, Eq, Debug)]
 pub enum Refusal {
     // A figure is outside its limits.
-    PastLimit,
+    PastLimit = 1,
     // The plant's class may not hold a contract's rank.
-    NotHeld,
+    NotHeld = 6,
     // More commissioning energy than metered energy.
-    AboveMeter,
+    AboveMeter = 7,
     // More than 256 contracts.
-    TooManyContracts,
+    TooManyContracts = 8,
     // The contracts' energies add up to more than an energy may be.
-    ContractSum,
+    ContractSum = 9,
     // A slice has not the length that is asked for.
-    SliceLength,
+    SliceLength = 11,
 }
 
 impl Refusal {
     pub fn number(self) -> u8
         ensures { result ≡ numbered self }
     {
-        match self {
-            Refusal::PastLimit => 1,
-            Refusal::NotHeld => 6,
-            Refusal::AboveMeter => 7,
-            Refusal::TooManyContracts => 8,
-            Refusal::ContractSum => 9,
-            Refusal::SliceLength => 11,
-        }
+        self as u8
     }
 }

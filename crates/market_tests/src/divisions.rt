@@ -3,8 +3,7 @@ use market::{Refusal, divide};
 use units::Energy;
 
 fn seven(claims: [u64; 7]) -> [Energy; 7] {
-    let [a, b, c, d, e, f, g] = claims;
-    [kwh(a), kwh(b), kwh(c), kwh(d), kwh(e), kwh(f), kwh(g)]
+    claims.map(kwh)
 }
 
 #[test]

@@ -8,15 +8,11 @@ use units::Grains;
 fn declined(figures: PlantFigures, contracts: &[Contract]) -> Result<Option<Refusal>, Fail> {
     let mut energies = [kwh(7); 2];
     let mut amounts = [Grains::from_count(7); 2];
-    match settle(&EqualRatio, figures, contracts, &mut energies, &mut amounts) {
-        Ok(_) => Ok(None),
-        Err(why) => {
-            if energies != [kwh(7); 2] || amounts != [Grains::from_count(7); 2] {
-                return Err(Fail::new("a settlement that was declined changed a slice"));
-            }
-            Ok(Some(why))
-        }
+    let why = settle(&EqualRatio, figures, contracts, &mut energies, &mut amounts).err();
+    if why.is_some() && (energies != [kwh(7); 2] || amounts != [Grains::from_count(7); 2]) {
+        return Err(Fail::new("a settlement that was declined changed a slice"));
     }
+    Ok(why)
 }
 
 #[test]

@@ -12,11 +12,11 @@ fn price(micro_yuan: u32) -> Price {
 }
 
 fn enrol(plant: u8, class: Class, approved: u32) -> Call {
-    Call::Enrol(plant, class.number(), price(approved))
+    Call::Enrol(plant, u8::from(class), price(approved))
 }
 
 fn enter(number: u32, plant: u8, rank: Rank, energy: u64, own: u32) -> Call {
-    Call::Enter(number, plant, rank.number(), kwh(energy), price(own))
+    Call::Enter(number, plant, u8::from(rank), kwh(energy), price(own))
 }
 
 fn transfer(new: u32, old: u32, receiver: u8, energy: u64, paid: u32) -> Call {

@@ -60,10 +60,7 @@ fn settle_all(rt: &HostRuntime, book: &MonthBook) -> anyhow::Result<()> {
 
 fn settle_plant(rt: &HostRuntime, book: &MonthBook, plant: u8) -> anyhow::Result<()> {
     match book.reading(plant) {
-        Some(reading) => {
-            let metered = reading.metered.kwh();
-            println!(rt; "the reading of plant {plant} is {metered} kWh")?;
-        }
+        Some(reading) => println!(rt; "the reading of plant {plant} is {} kWh", reading.metered)?,
         None => println!(rt; "plant {plant} has no reading")?,
     }
     settle(rt, book, plant, book.contract_count(plant))
@@ -89,7 +86,7 @@ fn settle(rt: &HostRuntime, book: &MonthBook, plant: u8, places: usize) -> anyho
 fn replay_journal(rt: &HostRuntime) -> anyhow::Result<()> {
     let mut book = Book::new(rt.alloc(), EqualRatio)?;
     let calls = calls::journal();
-    let mut answers = [Answer::Done; 7];
+    let mut answers = [Ok(None); 7];
     let count = calls.len();
     println!(rt; "open a new book for month 8 and replay a journal of {count} calls on it")?;
     match replay(

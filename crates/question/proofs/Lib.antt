@@ -1,4 +1,3 @@
-mod Numbers
 mod Reading
 mod Running
 mod Stretching

@@ -1,6 +1,5 @@
 -- The steps of a share, one by one. Assumes nothing.
-use Rattle.std.proofs.Common.{◌≡◌, ℕ, zero, suc, ◌+◌, ◌*◌, ◌/◌, ◌<◌, ◌≤◌, List, [], ◌∷◌, ◌++◌, length, get_or, take, drop, None, Ok, sum, sym, ap, ◌∙◌, subst, arith}
-use Rattle.std.proofs.lemmas.List.{append_assoc, append-nil, drop_more, at_drop_all}
+use Rattle.std.proofs.Common.{◌≡◌, ℕ, zero, suc, ◌+◌, ◌*◌, ◌/◌, ◌<◌, List, [], ◌∷◌, length, get_or, take, None, Ok, sum, sym, ap, ◌⊎◌, ⊎_elim, ◌∙◌, subst, arith, refl}
 use Rattle.sharing.specs.Places.{sum_of_first}
 use Rattle.sharing.specs.Declining.{placed}
 use Rattle.sharing.specs.Questions.{declined, Shared}
@@ -13,14 +12,11 @@ use Rattle.question.specs.Asking.{Asking}
 use Rattle.question.specs.Naming.{shares_by}
 use Rattle.question.specs.Workings.{steps_after, steps_of, zero_step, Worked}
 
--- one turn of the loop
-pub steps_more : (done : List Step) (s g : ℕ) (cs ps : List ℕ) (i : ℕ) → i < length cs → i < length ps → (done ++ (record { claim = get_or cs i 0; sum = s + get_or cs i 0; part = get_or ps i 0; given = g + get_or ps i 0 } ∷ [])) ++ steps_after (s + get_or cs i 0) (g + get_or ps i 0) (drop (i + 1) cs) (drop (i + 1) ps) ≡ done ++ steps_after s g (drop i cs) (drop i ps)
-steps_more done s g cs ps i h k =
-    append_assoc done _ _
-    ∙ ap (λ l. done ++ l) (sym (ap (λ l. steps_after s g l (drop i ps)) (drop_more cs i 0 h) ∙ ap (λ l. steps_after s g (get_or cs i 0 ∷ drop (i + 1) cs) l) (drop_more ps i 0 k)))
-
-pub steps_all : (done : List Step) (s g : ℕ) (cs ps : List ℕ) (i : ℕ) → length cs ≤ i → done ++ steps_after s g (drop i cs) (drop i ps) ≡ done
-steps_all done s g cs ps i h = ap (λ l. done ++ l) (at_drop_all (λ l. steps_after s g l (drop i ps)) cs i h) ∙ append-nil done
+-- no step is left where no claim or no part is
+pub steps_end : (s g : ℕ) (cs ps : List ℕ) → (cs ≡ []) ⊎ (ps ≡ []) → steps_after s g cs ps ≡ []
+steps_end s g [] ps h = refl
+steps_end s g (c ∷ cs) [] h = refl
+steps_end s g (c ∷ cs) (p ∷ ps) h = absurd (⊎_elim (λ e. cc) (λ e. cc) h)
 
 -- what a step shows
 step_sum : (s g : ℕ) (cs ps : List ℕ) (i : ℕ) → i < length cs → i < length ps → ((get_or (steps_after s g cs ps) i zero_step).sum ≡ s + sum_of_first (suc i) cs) × ((get_or (steps_after s g cs ps) i zero_step).given ≡ g + sum_of_first (suc i) ps)

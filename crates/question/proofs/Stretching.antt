@@ -1,38 +1,27 @@
 -- Stretches, words and lines. Assumes nothing.
-use Rattle.std.proofs.Common.{◌≡◌, ℕ, suc, ◌+◌, ◌<◌, ◌≤◌, Bool, true, false, cond, not, List, [], ◌∷◌, ◌++◌, length, get_or, take, drop, sym, refl, ap, ◌∙◌, ⊎_elim, zero-add, arith}
-use Rattle.std.proofs.lemmas.List.{append_assoc, append-nil, take_more, at_drop_more, at_drop_all}
+use Rattle.std.proofs.Common.{◌≡◌, ℕ, Bool, Option, true, false, cond, not, List, [], ◌∷◌, ◌++◌, length, take, drop, sym, refl, ap, ◌∙◌, ⊎_elim, arith}
+use Rattle.std.proofs.lemmas.List.{append_assoc, append-nil}
 use Rattle.std.proofs.lemmas.Bool.{cond-true, cond-false, cases_Bool, not_from_true, not_from_false}
-use Rattle.question.specs.Stretches.{blank, before, onward, with_word, words_after, words_of, without_first}
+use Rattle.std.proofs.lemmas.Bool.Decides.{nat_tests}
+use Rattle.std.proofs.lemmas.Grind.{common_steps}
+use Rattle.std.proofs.lemmas.List.Sums.{prefix_len-le-length}
+use Rattle.std.specs.List.{position, position_or_len}
+use Rattle.std.specs.Option.{unwrap_or}
+use Rattle.question.specs.Stretches.{blank, before, onward, with_word, words_after, words_of}
 
--- the loop: at i the test has passed at no byte before it
-pub before_more : (p : ℕ → Bool) (xs : List ℕ) (i : ℕ) → i < length xs → p (get_or xs i 0) ≡ false → take (i + 1) xs ++ before p (drop (i + 1) xs) ≡ take i xs ++ before p (drop i xs)
-before_more p xs i h e =
-    ap (λ l. l ++ before p (drop (i + 1) xs)) (take_more xs i 0 h)
-    ∙ append_assoc (take i xs) (get_or xs i 0 ∷ []) (before p (drop (i + 1) xs))
-    ∙ ap (λ l. take i xs ++ l) (sym (at_drop_more (before p) xs i 0 h ∙ cond-false (p (get_or xs i 0)) _ _ e))
+-- the place of the first byte that passes a test, or the end, and the text on both sides of it
+pub place_found : (p : ℕ → Bool) (xs : List ℕ) (found : Option ℕ) (place : ℕ) → found ≡ position p xs → place ≡ unwrap_or found (length xs) → place ≡ position_or_len p xs
+place_found p xs found place is e = grind (arith, nat_tests, prefix_len-le-length (λ x. not (p x)) xs)
 
-pub onward_more : (p : ℕ → Bool) (xs : List ℕ) (i : ℕ) → i < length xs → p (get_or xs i 0) ≡ false → onward p (drop (i + 1) xs) ≡ onward p (drop i xs)
-onward_more p xs i h e = sym (at_drop_more (onward p) xs i 0 h ∙ cond-false (p (get_or xs i 0)) _ _ e)
+pub before_place : (p : ℕ → Bool) (xs : List ℕ) → take (position_or_len p xs) xs ≡ before p xs
+before_place p [] = refl
+before_place p (x ∷ xs) =
+    ⊎_elim (λ e. rw e refl) (λ e. rw e (grind (arith, common_steps, before_place p xs))) (cases_Bool (p x))
 
-pub before_stop : (p : ℕ → Bool) (xs : List ℕ) (i : ℕ) → i < length xs → p (get_or xs i 0) ≡ true → take i xs ++ before p (drop i xs) ≡ take i xs
-before_stop p xs i h e =
-    ap (λ l. take i xs ++ l) (at_drop_more (before p) xs i 0 h ∙ cond-true (p (get_or xs i 0)) _ _ e) ∙ append-nil (take i xs)
-
-pub onward_stop : (p : ℕ → Bool) (xs : List ℕ) (i : ℕ) → i < length xs → p (get_or xs i 0) ≡ true → onward p (drop i xs) ≡ drop i xs
-onward_stop p xs i h e =
-    at_drop_more (onward p) xs i 0 h ∙ cond-true (p (get_or xs i 0)) _ _ e ∙ sym (at_drop_more (λ l. l) xs i 0 h)
-
-pub before_end : (p : ℕ → Bool) (xs : List ℕ) (i : ℕ) → length xs ≤ i → take i xs ++ before p (drop i xs) ≡ take i xs
-before_end p xs i h = ap (λ l. take i xs ++ l) (at_drop_all (before p) xs i h) ∙ append-nil (take i xs)
-
-pub onward_end : (p : ℕ → Bool) (xs : List ℕ) (i : ℕ) → length xs ≤ i → onward p (drop i xs) ≡ drop i xs
-onward_end p xs i h = at_drop_all (onward p) xs i h ∙ sym (at_drop_all (λ l. l) xs i h)
-
--- a stretch and what follows it make up the text
-pub stretch_length : (p : ℕ → Bool) (bs : List ℕ) → length (before p bs) + length (onward p bs) ≡ length bs
-stretch_length p [] = refl
-stretch_length p (b ∷ bs) =
-    ⊎_elim (λ e. rw e (zero-add (suc (length bs)))) (λ e. rw e (omega (arith, stretch_length p bs))) (cases_Bool (p b))
+pub onward_place : (p : ℕ → Bool) (xs : List ℕ) → drop (position_or_len p xs) xs ≡ onward p xs
+onward_place p [] = refl
+onward_place p (x ∷ xs) =
+    ⊎_elim (λ e. rw e refl) (λ e. rw e (grind (arith, common_steps, onward_place p xs))) (cases_Bool (p x))
 
 -- blanks in front make no word
 words_skip : (bs : List ℕ) → words_after [] bs ≡ words_after [] (onward (λ b. not (blank b)) bs)
@@ -67,7 +56,3 @@ no_word (b ∷ bs) h =
 pub words_none : (text rest : List ℕ) → rest ≡ onward (λ b. not (blank b)) text → length (before blank rest) ≡ 0 → words_of text ≡ []
 unfolding words_of
 words_none text rest e h = no_word text (ap (λ l. length (before blank l)) (sym e) ∙ h)
-
-pub drop_first : (bs : List ℕ) → drop 1 bs ≡ without_first bs
-drop_first [] = refl
-drop_first (b ∷ bs) = refl

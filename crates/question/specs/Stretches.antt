@@ -1,17 +1,9 @@
 -- Stretches of bytes, and the words and lines that they make up. Assumes nothing.
-use Rattle.std.specs.Prelude.{ℕ, Bool, cond, not, ◌||◌, List, [], ◌∷◌, ◌++◌, ◌==◌, nat_eq}
-use Rattle.question.specs.declared.stretch.Stop.{Stop}
-use Rattle.question.specs.declared.stretch.Stop.TheVariants.{Blank, Word, Newline}
+use Rattle.std.specs.Prelude.{ℕ, Bool, cond, ◌||◌, List, [], ◌∷◌, ◌++◌, ◌==◌, nat_eq}
 
 -- A space, a tab or a carriage return stands between words.
 unfoldable pub blank : ℕ → Bool
 blank b = b == 32 || b == 9 || b == 13
-
--- The bytes before which a stretch stops.
-abbrev pub stops_at : Stop → ℕ → Bool
-stops_at Blank b = blank b
-stops_at Word b = not (blank b)
-stops_at Newline b = b == 10
 
 -- The stretch before the first byte that passes a test, and the bytes from there on.
 abbrev pub before : (ℕ → Bool) → List ℕ → List ℕ

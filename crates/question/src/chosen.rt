@@ -1,9 +1,12 @@
 ghost use Rattle.std.specs.Prelude.{◌≡◌};
+ghost use Rattle.std.specs.Option.{ok_or};
 ghost use Rattle.question.specs.Naming.{shares_by, rule_named};
 ghost use Rattle.sharing.specs.Order.{order_fair};
 ghost use Rattle.sharing.specs.Ratio.{ratio_fair};
 ghost use Rattle.question.specs.declared.chosen.ChosenRule.TheVariants.{EqualRatio, InOrder};
+ghost use Rattle.question.specs.declared.fault.Fault.TheVariants.{UnknownRule};
 
+use crate::fault::Fault;
 use sharing::{EqualRatio, InOrder, Refusal, Share};
 use std::fmt;
 
@@ -14,17 +17,18 @@ pub enum ChosenRule {
     InOrder,
 }
 
-impl ChosenRule {
-    // The rule that a word names: `equal-ratio` or `in-order`.
-    pub fn named(word: &[u8]) -> Option<ChosenRule>
-        ensures { result ≡ rule_named word.now }
-    {
-        if word == b"equal-ratio".as_slice() {
-            Some(ChosenRule::EqualRatio)
-        } else if word == b"in-order".as_slice() {
-            Some(ChosenRule::InOrder)
-        } else {
-            None
+// The rule that a word names: `equal-ratio` or `in-order`.
+#[tactic(auto, unfolding(crate::specs::Naming::rule_named))]
+impl TryFrom<&[u8]> for ChosenRule {
+    type Error = Fault;
+
+    ghost try_from_gives = { λ word r. r ≡ ok_or (rule_named word.now) UnknownRule };
+
+    fn try_from(word: &[u8]) -> Result<ChosenRule, Fault> {
+        match word {
+            b"equal-ratio" => Ok(ChosenRule::EqualRatio),
+            b"in-order" => Ok(ChosenRule::InOrder),
+            _ => Err(Fault::UnknownRule),
         }
     }
 }

@@ -10,5 +10,5 @@ mod working;
 pub use chosen::ChosenRule;
 pub use fault::Fault;
 pub use line::{Question, read_question};
-pub use stretch::split_line;
+pub use stretch::{Lines, split_line};
 pub use working::{Failure, Step, claimed_in_all, work_out};

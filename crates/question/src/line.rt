@@ -4,7 +4,7 @@ ghost use Rattle.question.specs.Stretches.{words_of};
 
 use crate::chosen::ChosenRule;
 use crate::fault::Fault;
-use crate::stretch::split_word;
+use crate::stretch::Words;
 use std::alloc::Global;
 
 // A total to be shared over claims by a rule.
@@ -16,6 +16,7 @@ pub struct Question {
 }
 
 // The number that a word writes in decimal digits.
+// Kept: the library's parse takes a plus sign, which is no digit here, and text, which a line need not be.
 fn number(word: &[u8]) -> Option<u64>
     ensures { result ≡ number_of word.now }
 {
@@ -24,7 +25,7 @@ fn number(word: &[u8]) -> Option<u64>
     }
     let mut value: u64 = 0;
     for byte in word {
-        if *byte < b'0' || *byte > b'9' {
+        if !byte.is_ascii_digit() {
             return None;
         }
         let tens = value.checked_mul(10)?;
@@ -33,43 +34,30 @@ fn number(word: &[u8]) -> Option<u64>
     Some(value)
 }
 
-fn read_claims(heap: Global, text: &[u8]) -> Result<Vec<u64>, Fault>
-    ensures { MatchResult result (λ v. claims_of 0 (words_of text.now) ≡ Ok v.items) (λ e. Told e (claims_of 0 (words_of text.now))) }
+fn read_claims(heap: Global, words: Words<'_>) -> Result<Vec<u64>, Fault>
+    ensures { MatchResult result (λ v. claims_of 0 (words_of words.entry.text.now) ≡ Ok v.items) (λ e. Told e (claims_of 0 (words_of words.entry.text.now))) }
 {
     let mut claims = Vec::new(heap);
-    let mut rest = text;
-    loop {
-        let (word, after) = split_word(rest);
-        if word.is_empty() {
-            return Ok(claims);
-        }
-        let Some(claim) = number(word) else {
-            return Err(Fault::BadClaim(claims.len()));
-        };
+    for word in words {
+        let claim = number(word).ok_or(Fault::BadClaim(claims.len()))?;
         claims.push(claim)?;
-        rest = after;
     }
+    Ok(claims)
 }
 
 // The question that a line asks, none where it is blank or a comment, or what is wrong with it.
 pub fn read_question(heap: Global, line: &[u8]) -> Result<Option<Question>, Fault>
     ensures { MatchResult result (λ q. asked_by (words_of line.now) ≡ Ok (asks q)) (λ e. Told e (asked_by (words_of line.now))) }
 {
-    let (name, rest) = split_word(line);
-    if name.is_empty() || name[0] == b'#' {
-        return Ok(None);
-    }
-    let Some(rule) = ChosenRule::named(name) else {
-        return Err(Fault::UnknownRule);
+    let mut words = Words { text: line };
+    let name = match words.next() {
+        None | Some([b'#', ..]) => return Ok(None),
+        Some(name) => name,
     };
-    let (word, rest) = split_word(rest);
-    if word.is_empty() {
-        return Err(Fault::NoTotal);
-    }
-    let Some(total) = number(word) else {
-        return Err(Fault::BadTotal);
-    };
-    let claims = read_claims(heap, rest)?;
+    let rule = ChosenRule::try_from(name)?;
+    let word = words.next().ok_or(Fault::NoTotal)?;
+    let total = number(word).ok_or(Fault::BadTotal)?;
+    let claims = read_claims(heap, words)?;
     Ok(Some(Question {
         rule,
         total,

@@ -5,7 +5,7 @@ ghost use Rattle.question.specs.declared.working.Failure.TheVariants.{Declined, 
 
 use crate::line::Question;
 use sharing::{Refusal, Share};
-use std::alloc::{AllocError, AllocFailed, Global};
+use std::alloc::{AllocError, Global};
 
 // One claim and its part, with the running sums.
 #[derive(Clone, Copy, PartialEq, Eq, Debug)]
@@ -19,7 +19,7 @@ pub struct Step {
 }
 
 // Why a question is not worked out.
-#[derive(Clone, Copy)]
+#[derive(Clone, Copy, PartialEq, Eq, Debug)]
 pub enum Failure {
     Declined(Refusal),
     NoMemory,
@@ -45,11 +45,7 @@ impl From<AllocError> for Failure {
 pub fn claimed_in_all(claims: &[u64]) -> u128
     ensures { result ≡ sum claims.now }
 {
-    let mut so_far: u128 = 0;
-    for claim in claims {
-        so_far += u128::from(*claim);
-    }
-    so_far
+    claims.iter().map(|claim| u128::from(*claim)).sum()
 }
 
 fn steps(heap: Global, claims: &[u64], parts: &[u64]) -> Result<Vec<Step>, AllocError>
@@ -61,13 +57,13 @@ fn steps(heap: Global, claims: &[u64], parts: &[u64]) -> Result<Vec<Step>, Alloc
     let mut steps = Vec::new(heap);
     let mut sum: u64 = 0;
     let mut given: u64 = 0;
-    for (i, claim) in claims.iter().enumerate() {
+    for (claim, part) in claims.iter().zip(parts) {
         sum += *claim;
-        given += parts[i];
+        given += *part;
         steps.push(Step {
             claim: *claim,
             sum,
-            part: parts[i],
+            part: *part,
             given,
         })?;
     }
@@ -80,8 +76,7 @@ fn work_out_into(heap: Global, question: &Question, parts: &mut [u64]) -> Result
 {
     let claims = question.claims.as_slice();
     question.rule.share(claims, question.total, parts)?;
-    let all = steps(heap, claims, parts)?;
-    Ok(all)
+    Ok(steps(heap, claims, parts)?)
 }
 
 // The steps of a share, or why there are none.

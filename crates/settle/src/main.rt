@@ -12,22 +12,19 @@ fn main(rt: HostRuntime) -> anyhow::Result<()> {
 
 fn run(rt: &HostRuntime) -> anyhow::Result<()> {
     let sheet = read_sheet(rt)?;
-    match statement(rt.alloc(), sheet.as_slice()) {
-        Ok(text) => rt.print(text.as_str())?,
-        Err(_) => return Err(anyhow!("there is no memory for the book and its statement")),
-    }
+    let text = statement(rt.alloc(), sheet.as_slice());
+    let text = text.map_err(|_| anyhow!("there is no memory for the book and its statement"))?;
+    rt.print(text.as_str())?;
     Ok(())
 }
 
 // Standard input, of which one byte past the longest sheet shows that it is too long.
+// Kept: each program reads its input up to a bound of its own, and has its own words for what goes wrong.
 fn read_sheet(rt: &HostRuntime) -> anyhow::Result<Vec<u8>> {
     let mut sheet = Vec::new(rt.alloc());
-    match rt
-        .stdin()
+    rt.stdin()
         .take(MOST_BYTES as u64 + 1)
         .read_to_end(&mut sheet)
-    {
-        Ok(_) => Ok(sheet),
-        Err(error) => Err(anyhow!("standard input cannot be read: {error}")),
-    }
+        .map_err(|error| anyhow!("standard input cannot be read: {error}"))?;
+    Ok(sheet)
 }

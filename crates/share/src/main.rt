@@ -1,9 +1,9 @@
 // Shares totals over claims as text on standard input asks for it, and prints each step.
 #![tactic(auto)]
 
-use anyhow::anyhow;
+use anyhow::ensure;
 use question::{
-    ChosenRule, Failure, Question, Step, claimed_in_all, read_question, split_line, work_out,
+    ChosenRule, Failure, Lines, Question, Step, claimed_in_all, read_question, work_out,
 };
 use std::io;
 use std::io::Read;
@@ -21,30 +21,27 @@ fn run(rt: &HostRuntime) -> anyhow::Result<()> {
 }
 
 // All of standard input, of which no more is read than is needed to see that it is too long.
+// Kept: each program reads its input up to a bound of its own, and has its own words for what goes wrong.
 fn read_input(rt: &HostRuntime) -> anyhow::Result<Vec<u8>> {
     let mut input = Vec::new(rt.alloc());
     rt.stdin()
         .take(MOST_INPUT as u64 + 1)
         .read_to_end(&mut input)?;
-    if input.len() > MOST_INPUT {
-        return Err(anyhow!("standard input is longer than 65536 bytes"));
-    }
+    ensure!(
+        input.len() <= MOST_INPUT,
+        "standard input is longer than 65536 bytes"
+    );
     Ok(input)
 }
 
 fn answer_lines(rt: &HostRuntime, text: &[u8]) -> io::Result<()> {
-    let mut rest = text;
-    let mut number: u64 = 0;
-    while !rest.is_empty() {
-        let (line, after) = split_line(rest);
-        number = number.saturating_add(1);
-        answer(rt, number, line)?;
-        rest = after;
+    for (before, line) in Lines::of(text).enumerate() {
+        answer(rt, before.saturating_add(1), line)?;
     }
     Ok(())
 }
 
-fn answer(rt: &HostRuntime, number: u64, line: &[u8]) -> io::Result<()> {
+fn answer(rt: &HostRuntime, number: usize, line: &[u8]) -> io::Result<()> {
     match read_question(rt.alloc(), line) {
         Ok(None) => Ok(()),
         Ok(Some(question)) => {
@@ -82,14 +79,13 @@ fn show_answer(rt: &HostRuntime, question: &Question) -> io::Result<()> {
 
 fn show_steps(rt: &HostRuntime, question: &Question, steps: &[Step]) -> io::Result<()> {
     let claimed = claimed_in_all(question.claims.as_slice());
-    let mut given: u64 = 0;
     for step in steps {
         match question.rule {
             ChosenRule::EqualRatio => show_ratio_step(rt, question.total, claimed, step)?,
             ChosenRule::InOrder => show_order_step(rt, question.total, step)?,
         }
-        given = step.given;
     }
+    let given = steps.last().map_or(0, |step| step.given);
     println!(rt; "  the parts add up to {given}")
 }
 

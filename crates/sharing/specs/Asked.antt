@@ -1,8 +1,7 @@
 -- What is known of a question that is not declined, and which questions are not. Assumes nothing.
-use Rattle.std.specs.Prelude.{◌≡◌, ℕ, suc, ◌*◌, ◌<◌, ◌≤◌, false, List, [], ◌∷◌, length, Some, None, sum, slice_index, refl}
+use Rattle.std.specs.Prelude.{◌≡◌, ℕ, suc, ◌*◌, ◌≤◌, false, List, [], ◌∷◌, length, None, sum, slice_index, refl}
 use Rattle.std.proofs.Common.{mul-le-mul, arith}
 use Rattle.std.proofs.lemmas.Bool.Decides.{nat_tests}
-use Rattle.sharing.specs.declared.refusal.Refusal.TheVariants.{Lengths}
 use Rattle.sharing.specs.Questions.{any_above, declined, Accepted, Asked, RankAccepted, CompensationAccepted}
 use Rattle.sharing.specs.Claims.{each_under, sum_under, get_d_le_sum}
 
@@ -19,10 +18,6 @@ asked claims total places h =
       whole = omega (arith, sum_under 300000000000 claims none);
       small = grind (arith, nat_tests);
     }
-
-pub too_many : (claims : List ℕ) (total places : ℕ) → 256 < places → declined claims total places ≡ Some Lengths
-unfolding declined
-too_many claims total places h = grind (arith, nat_tests)
 
 -- none of the claims is above a limit that each keeps
 none_above : (m : ℕ) (xs : List ℕ) → ((i : ℕ) → slice_index xs i ≤ m) → any_above m xs ≡ false

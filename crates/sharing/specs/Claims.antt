@@ -1,10 +1,9 @@
 -- Claims above a limit. Assumes nothing.
-use Rattle.std.specs.Prelude.{◌≡◌, ℕ, zero, suc, ◌+◌, ◌*◌, ◌<◌, ◌≤◌, true, false, ◌||◌, List, [], ◌∷◌, length, drop, sum, nat_lt, slice_index, refl}
-use Rattle.std.proofs.Common.{sym, ap, ◌∙◌, ⊎_elim, arith}
+use Rattle.std.specs.Prelude.{◌≡◌, ℕ, zero, suc, ◌+◌, ◌*◌, ◌<◌, ◌≤◌, true, false, List, [], ◌∷◌, length, sum, nat_lt, slice_index, refl}
+use Rattle.std.proofs.Common.{⊎_elim, arith}
 use Rattle.std.proofs.ByRecursion.{All-from_get_or, sum_by_le}
-use Rattle.std.proofs.lemmas.List.{at_drop_more}
 use Rattle.std.proofs.lemmas.List.Sums.{sum_by-cons}
-use Rattle.std.proofs.lemmas.Bool.{ltb-true, ltb-false, or_parts, lt-ltb, le-ltb, or_cases, or_left, both_ways}
+use Rattle.std.proofs.lemmas.Bool.{ltb-true, ltb-false, or_parts, or_cases, both_ways}
 use Rattle.sharing.specs.Questions.{any_above}
 
 pub sum_cons : (x : ℕ) (xs : List ℕ) → sum (x ∷ xs) ≡ x + sum xs
@@ -16,13 +15,6 @@ above_sum m [] h = absurd (both_ways false refl h)
 above_sum m (x ∷ xs) h =
     ⊎_elim (λ e. omega (arith, ltb-true m x e, sum_cons x xs)) (λ e. omega (arith, above_sum m xs e, sum_cons x xs))
     (or_cases (nat_lt m x) (any_above m xs) h)
-
-pub above_at : (m : ℕ) (xs : List ℕ) (i : ℕ) → i < length xs → m < slice_index xs i → any_above m (drop i xs) ≡ true
-above_at m xs i h e = at_drop_more (any_above m) xs i 0 h ∙ or_left _ _ (lt-ltb _ _ e)
-
-pub above_past : (m : ℕ) (xs : List ℕ) (i : ℕ) → i < length xs → slice_index xs i ≤ m → any_above m (drop (i + 1) xs) ≡ any_above m (drop i xs)
-above_past m xs i h e =
-    sym (at_drop_more (any_above m) xs i 0 h ∙ ap (λ b. b || any_above m (drop (i + 1) xs)) (le-ltb _ _ e))
 
 -- with no claim above a limit
 pub each_under : (m : ℕ) (xs : List ℕ) → any_above m xs ≡ false → (i : ℕ) → slice_index xs i ≤ m

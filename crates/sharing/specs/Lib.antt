@@ -6,6 +6,5 @@ pub mod Rules
 pub mod Ratio
 pub mod Asked
 pub mod Claims
-pub mod Filling
 pub mod Floors
 pub mod Order

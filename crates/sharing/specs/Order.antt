@@ -1,14 +1,12 @@
 -- The rule of filling in order keeps the laws. Assumes nothing.
-use Rattle.std.specs.Prelude.{◌≡◌, ℕ, zero, suc, ◌+◌, ◌-◌, ◌<◌, ◌≤◌, List, [], ◌∷◌, ◌++◌, length, take, drop, sum, slice_index, slice_set, refl}
+use Rattle.std.specs.Prelude.{◌≡◌, ℕ, zero, suc, ◌+◌, ◌-◌, ◌≤◌, List, [], ◌∷◌, length, sum, slice_index, refl}
 use Rattle.std.proofs.Common.{sym, ap, ◌∙◌, arith}
-use Rattle.std.proofs.lemmas.List.{at_drop_more, at_drop_all}
 use Rattle.std.proofs.lemmas.Bool.Decides.{nat_tests}
 use Rattle.sharing.specs.Laws.{Fair}
 use Rattle.sharing.specs.Questions.{Accepted}
 use Rattle.sharing.specs.Rules.{turn_of, order_from, in_order}
 use Rattle.sharing.specs.Asked.{asked}
 use Rattle.sharing.specs.Claims.{sum_cons}
-use Rattle.sharing.specs.Filling.{places_more, places_all}
 
 -- a turn takes no more than is left, and where nothing is claimed after it leaves nothing
 pub turn_le : (left c rest : ℕ) → turn_of left c rest ≤ left
@@ -53,14 +51,3 @@ order_fair claims total h =
       none = order_none total claims;
       within = order_within total claims;
     }
-
--- one turn of the loop
-pub order_more : (left rest : ℕ) (claims places : List ℕ) (i v : ℕ) → i < length claims → i < length places → rest ≡ sum (drop (i + 1) claims) → v ≡ turn_of left (slice_index claims i) rest → take (i + 1) (slice_set places i v) ++ order_from (left - v) (drop (i + 1) claims) ≡ take i places ++ order_from left (drop i claims)
-order_more left rest claims places i v h k r e =
-    let same : v ≡ turn_of left (slice_index claims i) (sum (drop (i + 1) claims)) = e ∙ ap (turn_of left (slice_index claims i)) r in
-    places_more places i v (order_from (left - v) (drop (i + 1) claims)) k
-    ∙ ap (λ x. take i places ++ (x ∷ order_from (left - x) (drop (i + 1) claims))) same
-    ∙ ap (λ l. take i places ++ l) (sym (at_drop_more (order_from left) claims i 0 h))
-
-pub order_all : (left : ℕ) (claims places : List ℕ) (i : ℕ) → length claims ≤ i → length places ≤ i → take i places ++ order_from left (drop i claims) ≡ places
-order_all left claims places i h k = ap (λ l. take i places ++ l) (at_drop_all (order_from left) claims i h) ∙ places_all places i k

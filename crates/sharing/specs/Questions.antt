@@ -1,5 +1,6 @@
 -- Which questions are declined and by which number, and what a share answers. Assumes nothing.
-use Rattle.std.specs.Prelude.{◌≡◌, ℕ, ◌*◌, ◌<◌, ◌≤◌, Bool, false, not, ◌&&◌, ◌||◌, List, [], ◌∷◌, length, IfOk, None, sum, Option, Result, ◌==◌, nat_lt, slice_index}
+use Rattle.std.specs.Prelude.{◌≡◌, ℕ, ◌*◌, ◌<◌, ◌≤◌, Bool, not, ◌&&◌, ◌||◌, List, [], ◌∷◌, length, IfOk, None, sum, Option, Result, ◌==◌, nat_lt, slice_index}
+use Rattle.std.specs.List.{list_any}
 use Rattle.sharing.specs.Declining.{first_of, answered, placed}
 use Rattle.sharing.specs.Laws.{Fair}
 use Rattle.sharing.specs.declared.refusal.Refusal.{Refusal}
@@ -13,8 +14,7 @@ numbered TooLarge = 23
 
 -- Some number of the list is above the limit.
 abbrev pub any_above : ℕ → List ℕ → Bool
-any_above limit [] = false
-any_above limit (x ∷ xs) = nat_lt limit x || any_above limit xs
+any_above limit xs = list_any (nat_lt limit) xs
 
 -- Why a share of a total over claims into so many places is declined, if it is: the first condition that holds.
 unfoldable pub declined : List ℕ → ℕ → ℕ → Option Refusal

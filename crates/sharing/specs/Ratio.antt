@@ -1,13 +1,11 @@
--- The rule of equal ratio keeps the laws, and a loop that follows it. Assumes nothing.
-use Rattle.std.specs.Prelude.{◌≡◌, ℕ, zero, suc, ◌+◌, ◌-◌, ◌<◌, ◌≤◌, List, [], ◌∷◌, ◌++◌, length, take, drop, sum, slice_index, slice_set, refl}
-use Rattle.std.proofs.Common.{sym, ap, ◌∙◌, arith, add-zero, zero-add}
-use Rattle.std.proofs.lemmas.List.{at_drop_more, at_drop_all}
+-- The rule of equal ratio keeps the laws. Assumes nothing.
+use Rattle.std.specs.Prelude.{◌≡◌, ℕ, zero, suc, ◌+◌, ◌-◌, ◌≤◌, List, [], ◌∷◌, length, sum, slice_index, refl}
+use Rattle.std.proofs.Common.{ap, arith, add-zero, zero-add}
 use Rattle.sharing.specs.Laws.{Fair}
 use Rattle.sharing.specs.Questions.{Accepted, Asked}
 use Rattle.sharing.specs.Rules.{running_floor, ratio_from, equal_ratio}
 use Rattle.sharing.specs.Asked.{asked}
 use Rattle.sharing.specs.Claims.{sum_cons}
-use Rattle.sharing.specs.Filling.{places_more, places_all}
 use Rattle.sharing.specs.Floors.{floor_mono, floor_within, floor_start, floor_whole}
 
 ratio_long : (w t s : ℕ) (cs : List ℕ) → length (ratio_from w t s cs) ≡ length cs
@@ -44,13 +42,3 @@ ratio_fair claims total h =
       none = ratio_none w total 0 claims;
       within = ratio_within w total 0 claims;
     }
-
--- one turn of the loop
-pub ratio_more : (w t s : ℕ) (claims places : List ℕ) (i v : ℕ) → i < length claims → i < length places → v ≡ running_floor w t (s + slice_index claims i) - running_floor w t s → take (i + 1) (slice_set places i v) ++ ratio_from w t (s + slice_index claims i) (drop (i + 1) claims) ≡ take i places ++ ratio_from w t s (drop i claims)
-ratio_more w t s claims places i v h k e =
-    places_more places i v (ratio_from w t (s + slice_index claims i) (drop (i + 1) claims)) k
-    ∙ ap (λ x. take i places ++ (x ∷ ratio_from w t (s + slice_index claims i) (drop (i + 1) claims))) e
-    ∙ ap (λ l. take i places ++ l) (sym (at_drop_more (ratio_from w t s) claims i 0 h))
-
-pub ratio_all : (w t s : ℕ) (claims places : List ℕ) (i : ℕ) → length claims ≤ i → length places ≤ i → take i places ++ ratio_from w t s (drop i claims) ≡ places
-ratio_all w t s claims places i h k = ap (λ l. take i places ++ l) (at_drop_all (ratio_from w t s) claims i h) ∙ places_all places i k

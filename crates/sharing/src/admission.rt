@@ -10,22 +10,26 @@ const MOST_CLAIMED: u64 = 300_000_000_000;
 
 const MOST_PRODUCT: u64 = 9_000_000_000_000_000_000;
 
+fn any_too_large(claims: &[u64]) -> bool
+    ensures { result ≡ any_above 300000000000 claims.now }
+{
+    claims.iter().any(|claim| *claim > MOST_CLAIMED)
+}
+
 // The sum of the claims, or nothing where one of them is too large.
 fn sum_of(claims: &[u64]) -> Option<u64>
     requires { length claims.now ≤ 256 }
     ensures { result ≡ (if any_above 300000000000 claims.now then None else Some (sum claims.now)) }
 {
-    let mut so_far: u64 = 0;
-    for claim in claims {
-        if *claim > MOST_CLAIMED {
-            return None;
-        }
-        so_far += *claim;
+    if any_too_large(claims) {
+        None
+    } else {
+        Some(claims.iter().sum())
     }
-    Some(so_far)
 }
 
 // The sum of the claims, where a share into so many places is not declined. A rule of one's own begins with it.
+#[tactic(auto, using(crate::specs::Claims::above_sum), unfolding(crate::specs::Questions::declined))]
 pub fn admit(claims: &[u64], total: u64, places: usize) -> Result<u64, Refusal>
     ensures { result ≡ answered (declined claims.now total places) (sum claims.now) }
 {
@@ -33,17 +37,13 @@ pub fn admit(claims: &[u64], total: u64, places: usize) -> Result<u64, Refusal>
         return Err(Refusal::Lengths);
     }
     // A claim that is too large is above zero, so it is no case of nothing claimed.
-    let Some(claimed) = sum_of(claims) else {
-        return Err(Refusal::TooLarge);
-    };
+    let claimed = sum_of(claims).ok_or(Refusal::TooLarge)?;
     if claimed == 0 && total > 0 {
         return Err(Refusal::NothingClaimed);
     }
-    let Some(product) = total.checked_mul(claimed) else {
-        return Err(Refusal::TooLarge);
-    };
-    if product > MOST_PRODUCT {
-        return Err(Refusal::TooLarge);
-    }
+    total
+        .checked_mul(claimed)
+        .filter(|product| *product <= MOST_PRODUCT)
+        .ok_or(Refusal::TooLarge)?;
     Ok(claimed)
 }

@@ -29,6 +29,7 @@ impl Share for EqualRatio {
 }
 
 // What claims adding up to `so_far` get together, rounded down.
+#[tactic(auto, unfolding(crate::specs::Rules::running_floor))]
 fn running_floor(claimed: u64, total: u64, so_far: u64) -> u64
     requires { total * so_far < 2 ^ 64 }
     ensures { result ≡ running_floor claimed total so_far }
@@ -40,6 +41,7 @@ fn running_floor(claimed: u64, total: u64, so_far: u64) -> u64
     }
 }
 
+#[tactic(auto, using(crate::specs::Floors::floor_start, crate::specs::Floors::floor_mono))]
 fn fill_by_ratio(claims: &[u64], total: u64, claimed: u64, parts: &mut [u64])
     requires asked { Asked claims.now total (length parts.old) }
     requires whole { claimed ≡ sum claims.now }
@@ -47,6 +49,7 @@ fn fill_by_ratio(claims: &[u64], total: u64, claimed: u64, parts: &mut [u64])
 {
     let mut so_far: u64 = 0;
     let mut given: u64 = 0;
+    // Kept: by index, since a proof knows nothing of what a zip with parts.iter_mut() wrote.
     for (i, claim) in claims.iter().enumerate() {
         so_far += *claim;
         let due = running_floor(claimed, total, so_far);

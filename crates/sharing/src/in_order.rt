@@ -22,6 +22,8 @@ impl Share for InOrder {
         ensures shared { Shared in_order claims.now total parts.old parts.new result }
         ensures places { OnOk result (OrderPlaces claims.now total parts.new) }
     {
+        // Kept: EqualRatio has the same two steps. A common function would take the filling as a closure, whose
+        // contract is longer than these lines, and the trait's own method would lose the clause on places.
         let claimed = admit(claims, total, parts.len())?;
         fill_in_order(claims, total, claimed, parts);
         Ok(())
@@ -35,6 +37,7 @@ fn fill_in_order(claims: &[u64], total: u64, claimed: u64, parts: &mut [u64])
 {
     let mut left = total;
     let mut rest = claimed;
+    // Kept: by index, since a proof knows nothing of what a zip with parts.iter_mut() wrote.
     for (i, claim) in claims.iter().enumerate() {
         rest -= *claim;
         let part = if *claim > 0 && rest == 0 {

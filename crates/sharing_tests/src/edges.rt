@@ -1,5 +1,22 @@
 // Refusals and edges of both rules.
 use sharing::{EqualRatio, InOrder, Refusal, Share, admit};
+use std::process::Abort;
+
+fn declined_by<R: Share>(
+    rt: &impl Abort,
+    rule: &R,
+    claims: &[u64],
+    total: u64,
+    parts: &mut [u64],
+    why: Refusal,
+) {
+    assert_eq!(rt; rule.share(claims, total, parts), Err(why));
+}
+
+fn declined_by_both(rt: &impl Abort, claims: &[u64], total: u64, parts: &mut [u64], why: Refusal) {
+    declined_by(rt, &EqualRatio, claims, total, parts, why);
+    declined_by(rt, &InOrder, claims, total, parts, why);
+}
 
 #[test]
 fn examples(rt: HostRuntime) {
@@ -19,14 +36,7 @@ fn examples(rt: HostRuntime) {
 fn no_claims(rt: HostRuntime) {
     assert_eq!(rt; EqualRatio.share(&[], 0, &mut []), Ok(()));
     assert_eq!(rt; InOrder.share(&[], 0, &mut []), Ok(()));
-    assert_eq!(rt;
-        EqualRatio.share(&[], 1, &mut []),
-        Err(Refusal::NothingClaimed)
-    );
-    assert_eq!(rt;
-        InOrder.share(&[], 1, &mut []),
-        Err(Refusal::NothingClaimed)
-    );
+    declined_by_both(&rt, &[], 1, &mut [], Refusal::NothingClaimed);
 }
 
 #[test]
@@ -83,14 +93,7 @@ fn as_many_claims_as_may_be(rt: HostRuntime) {
 fn one_claim_too_many(rt: HostRuntime) {
     let claims = [1; 257];
     let mut parts = [7; 257];
-    assert_eq!(rt;
-        EqualRatio.share(&claims, 1, &mut parts),
-        Err(Refusal::Lengths)
-    );
-    assert_eq!(rt;
-        InOrder.share(&claims, 1, &mut parts),
-        Err(Refusal::Lengths)
-    );
+    declined_by_both(&rt, &claims, 1, &mut parts, Refusal::Lengths);
     assert_eq!(rt; parts, [7; 257]);
 }
 
@@ -102,14 +105,7 @@ fn claim_at_its_limit(rt: HostRuntime) {
         Ok(())
     );
     assert_eq!(rt; parts, [30_000_000]);
-    assert_eq!(rt;
-        EqualRatio.share(&[300_000_000_001], 0, &mut parts),
-        Err(Refusal::TooLarge)
-    );
-    assert_eq!(rt;
-        InOrder.share(&[300_000_000_001], 0, &mut parts),
-        Err(Refusal::TooLarge)
-    );
+    declined_by_both(&rt, &[300_000_000_001], 0, &mut parts, Refusal::TooLarge);
     assert_eq!(rt; parts, [30_000_000]);
 }
 

@@ -1,31 +1,23 @@
 // Lines of text that are questions, and lines that are none.
 use question::{
-    ChosenRule, Failure, Fault, Question, Step, claimed_in_all, read_question, split_line, work_out,
+    ChosenRule, Failure, Fault, Lines, Question, Step, claimed_in_all, read_question, split_line,
+    work_out,
 };
 use sharing::Refusal;
 use std::test::Fail;
 
 fn fault_of(rt: &HostRuntime, line: &[u8]) -> Option<Fault> {
-    match read_question(rt.alloc(), line) {
-        Ok(_) => None,
-        Err(fault) => Some(fault),
-    }
+    read_question(rt.alloc(), line).err()
 }
 
 fn question_of(rt: &HostRuntime, line: &[u8]) -> Result<Question, Fail> {
-    match read_question(rt.alloc(), line) {
-        Ok(Some(question)) => Ok(question),
-        Ok(None) => Err(Fail::new("no question")),
-        Err(_) => Err(Fail::new("a fault")),
-    }
+    read_question(rt.alloc(), line)
+        .map_err(|_| Fail::new("a fault"))?
+        .ok_or_else(|| Fail::new("no question"))
 }
 
 fn asks_nothing(rt: &HostRuntime, line: &[u8]) -> bool {
-    match read_question(rt.alloc(), line) {
-        Ok(None) => true,
-        Ok(Some(_)) => false,
-        Err(_) => false,
-    }
+    read_question(rt.alloc(), line).is_ok_and(|question| question.is_none())
 }
 
 #[test]
@@ -75,34 +67,34 @@ fn lines(rt: HostRuntime) {
 }
 
 #[test]
+fn lines_in_turn(rt: HostRuntime) {
+    let mut lines = Lines::of(b"one\n\ntwo\n");
+    assert_eq!(rt; lines.next(), Some(b"one".as_slice()));
+    assert_eq!(rt; lines.next(), Some(b"".as_slice()));
+    assert_eq!(rt; lines.next(), Some(b"two".as_slice()));
+    assert_eq!(rt; lines.next(), None);
+}
+
+#[test]
 fn steps(rt: HostRuntime) -> Result<(), Fail> {
     let q = question_of(&rt, b"equal-ratio 2 1 1 1")?;
     assert_eq!(rt; claimed_in_all(q.claims.as_slice()), 3);
-    match work_out(rt.alloc(), &q) {
-        Ok(shown) => {
-            let second = Step {
-                claim: 1,
-                sum: 2,
-                part: 1,
-                given: 1,
-            };
-            assert_eq!(rt; shown.get(1).copied(), Some(second));
-            assert_eq!(rt; shown.len(), 3);
-            Ok(())
-        }
-        Err(_) => Err(Fail::new("declined")),
-    }
+    let shown = work_out(rt.alloc(), &q).map_err(|_| Fail::new("declined"))?;
+    let second = Step {
+        claim: 1,
+        sum: 2,
+        part: 1,
+        given: 1,
+    };
+    assert_eq!(rt; shown.get(1).copied(), Some(second));
+    assert_eq!(rt; shown.len(), 3);
+    Ok(())
 }
 
 #[test]
 fn declined(rt: HostRuntime) -> Result<(), Fail> {
     let q = question_of(&rt, b"in-order 1 0")?;
-    match work_out(rt.alloc(), &q) {
-        Err(Failure::Declined(why)) => {
-            assert_eq!(rt; why, Refusal::NothingClaimed);
-            Ok(())
-        },
-        Err(Failure::NoMemory) => Err(Fail::new("no memory")),
-        Ok(_) => Err(Fail::new("not declined")),
-    }
+    let why = work_out(rt.alloc(), &q).err();
+    assert_eq!(rt; why, Some(Failure::Declined(Refusal::NothingClaimed)));
+    Ok(())
 }

@@ -1,5 +1,4 @@
 mod Bytes
-mod Fields
 mod Items
 pub mod Making
 mod Sections

@@ -1,6 +1,6 @@
 -- The sections of a sheet, made one after another. Assumes nothing.
 use Rattle.std.proofs.Common.{◌≡◌, ℕ, suc, ◌+◌, ◌-◌, ◌<◌, ◌≤◌, List, [], ◌∷◌, ◌++◌, length, drop, Some, None, Ok, Err, Option, sym, refl, ap, ◌∙◌, arith}
-use Rattle.std.proofs.lemmas.List.{drop-drop, drop_all, length-drop}
+use Rattle.std.proofs.lemmas.List.{drop-drop, length-drop}
 use Rattle.sharing.specs.Declining.{placed}
 use Rattle.book.specs.declared.call.Call.{Call}
 use Rattle.book.specs.declared.refusal.Refusal.{Refusal}
@@ -74,8 +74,8 @@ section_stopped f g s more e some same = (
 )
 
 -- After the last section.
-pub over : (f : Ledger) (n i offset : ℕ) (rest : List ℕ) → n ≤ i → (fault_of f (contents_from (n - i) offset rest) ≡ left_over offset rest) × (left_of f (contents_from (n - i) offset rest) ≡ f)
-over f n i offset rest h = let e : n - i ≡ 0 = omega arith in (ap (λ m. fault_of f (contents_from m offset rest)) e, ap (λ m. left_of f (contents_from m offset rest)) e)
+pub over : (f : Ledger) (n i offset : ℕ) (rest : List ℕ) → n ≤ i → fault_of f (contents_from (n - i) offset rest) ≡ left_over offset rest
+over f n i offset rest h = let e : n - i ≡ 0 = omega arith in ap (λ m. fault_of f (contents_from m offset rest)) e
 
 some_left : (offset : ℕ) (rest : List ℕ) → 0 < length rest → left_over offset rest ≡ Some (sheet_fault offset LeftOver)
 some_left offset [] h = absurd (omega arith)
@@ -83,9 +83,6 @@ some_left offset (b ∷ bs) h = refl
 
 pub left_over_lem : (offset : ℕ) (bytes : List ℕ) → offset < length bytes → left_over offset (drop offset bytes) ≡ Some (sheet_fault offset LeftOver)
 left_over_lem offset bytes h = some_left offset (drop offset bytes) (omega (arith, length-drop offset bytes))
-
-pub none_left : (offset : ℕ) (bytes : List ℕ) → length bytes ≤ offset → left_over offset (drop offset bytes) ≡ None
-none_left offset bytes h = ap (left_over offset) (drop_all offset bytes h)
 
 -- The calls that are made, with their answers, are a run.
 run_by : (why : Option Refusal) (f : Ledger) (c : Call) (cs : List Call) → why ≡ declined f c → Run (accepted f c) (made_of (accepted f c) cs) (answers_of (accepted f c) cs) (left_by (accepted f c) cs) → Run f (c ∷ placed why (made_of (accepted f c) cs) []) (answer f c ∷ placed why (answers_of (accepted f c) cs) []) (placed why (left_by (accepted f c) cs) f)

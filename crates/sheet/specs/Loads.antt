@@ -2,11 +2,9 @@
 use Rattle.std.specs.Prelude.{◌≡◌, ℕ, ◌+◌, Bool, false, not, List, [], ◌∷◌, length, Some, None, Ok, Err, Option, Result, nat_lt}
 use Rattle.sharing.specs.Declining.{first_of, answered, placed}
 use Rattle.book.specs.declared.call.Call.{Call}
-use Rattle.book.specs.declared.call.Answer.{Answer}
-use Rattle.book.specs.declared.call.Answer.TheVariants.{Done, Paid, Declined}
 use Rattle.book.specs.declared.refusal.Refusal.{Refusal}
 use Rattle.book.specs.declared.refusal.Refusal.TheVariants.{PastLimit}
-use Rattle.book.specs.Calls.{declined, accepted, answer, open_within}
+use Rattle.book.specs.Calls.{Answer, declined, accepted, answer, open_within}
 use Rattle.book.specs.Ledgers.{Ledger, opened}
 use Rattle.journal.specs.Replays.{Ran}
 use Rattle.sheet.specs.declared.fault.Cause.{Cause}
@@ -35,12 +33,6 @@ answers_of f (c ∷ cs) = answer f c ∷ placed (declined f c) (answers_of (acce
 abbrev pub book_fault : ℕ → ℕ → Option Refusal → Option Fault
 book_fault offset item None = None
 book_fault offset item (Some why) = Some (fault_at offset item (Book why))
-
--- Why a call was declined, if it was, by its answer.
-abbrev pub refused_by : Answer → Option Refusal
-refused_by Done = None
-refused_by (Paid fen) = None
-refused_by (Declined why) = Some why
 
 abbrev pub item_fault : Ledger → ℕ → ℕ → List Call → Option Fault
 item_fault f offset item [] = None

@@ -1,35 +1,30 @@
 // What is wrong with a sheet, and where.
 ghost use Rattle.std.specs.Prelude.{◌≡◌};
-ghost use Rattle.sheet.specs.Faults.{problem_number, layer_of, cause_number};
+ghost use Rattle.sheet.specs.Faults.{cause_number, fault_at, layer_of, problem_number, sheet_fault};
+ghost use Rattle.sheet.specs.declared.fault.Cause.TheVariants.{Book};
 
 use book::Refusal;
 
-// What is wrong with the bytes themselves.
+// What is wrong with the bytes themselves, with the number by which it is known in every document and program.
 #[derive(Clone, Copy, PartialEq, Eq, Debug)]
 pub enum Problem {
     // The sheet has more than 65,536 bytes.
-    TooLong,
+    TooLong = 31,
     // The header, the start of a section, or its heads and terms are not all there.
-    CutShort,
+    CutShort = 32,
     // The kind of a section is not 1 to 4.
-    UnknownKind,
+    UnknownKind = 33,
     // A section has more than 256 items.
-    TooManyItems,
+    TooManyItems = 34,
     // Bytes stand after the last section.
-    LeftOver,
+    LeftOver = 35,
 }
 
 impl Problem {
     fn number(self) -> u8
         ensures { result ≡ problem_number self }
     {
-        match self {
-            Problem::TooLong => 31,
-            Problem::CutShort => 32,
-            Problem::UnknownKind => 33,
-            Problem::TooManyItems => 34,
-            Problem::LeftOver => 35,
-        }
+        self as u8
     }
 }
 
@@ -41,6 +36,7 @@ pub enum Cause {
     Book(Refusal),
 }
 
+// Kept: a cause has two numbers, so these are methods, and a From would have to choose one.
 impl Cause {
     pub fn layer(self) -> u8
         ensures { result ≡ layer_of self }
@@ -68,4 +64,28 @@ pub struct Fault {
     pub offset: usize,
     // The item within the section, from 0; 0 outside an item.
     pub item: usize,
+}
+
+impl Fault {
+    // A fault of the sheet itself, outside an item.
+    pub(crate) fn of_sheet(problem: Problem, offset: usize) -> Fault
+        ensures { result ≡ sheet_fault offset problem }
+    {
+        Fault {
+            cause: Cause::Sheet(problem),
+            offset,
+            item: 0,
+        }
+    }
+
+    // A call that the book declined.
+    pub(crate) fn of_book(refusal: Refusal, offset: usize, item: usize) -> Fault
+        ensures { result ≡ fault_at offset item (Book refusal) }
+    {
+        Fault {
+            cause: Cause::Book(refusal),
+            offset,
+            item,
+        }
+    }
 }

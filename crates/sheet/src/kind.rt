@@ -1,6 +1,9 @@
 // The kinds of sections.
-ghost use Rattle.std.specs.Prelude.{◌≡◌};
+ghost use Rattle.std.specs.Prelude.{◌≡◌, ok_or};
+ghost use Rattle.sheet.specs.declared.fault.Problem.TheVariants.{UnknownKind};
 ghost use Rattle.sheet.specs.Formats.{kind_of, head_size, term_size};
+
+use crate::fault::Problem;
 
 #[derive(Clone, Copy)]
 pub enum Kind {
@@ -10,19 +13,23 @@ pub enum Kind {
     Meters,
 }
 
-impl Kind {
-    pub(crate) fn from_number(number: u8) -> Option<Kind>
-        ensures { result ≡ kind_of number }
-    {
+impl TryFrom<u8> for Kind {
+    type Error = Problem;
+
+    ghost try_from_gives = { λ number r. r ≡ ok_or (kind_of number) UnknownKind };
+
+    fn try_from(number: u8) -> Result<Kind, Problem> {
         match number {
-            1 => Some(Kind::Enrols),
-            2 => Some(Kind::Enters),
-            3 => Some(Kind::Transfers),
-            4 => Some(Kind::Meters),
-            _ => None,
+            1 => Ok(Kind::Enrols),
+            2 => Ok(Kind::Enters),
+            3 => Ok(Kind::Transfers),
+            4 => Ok(Kind::Meters),
+            _ => Err(Problem::UnknownKind),
         }
     }
+}
 
+impl Kind {
     // How many bytes the head of an item takes.
     pub(crate) fn head_size(self) -> usize
         ensures { result ≡ head_size self }

@@ -3,7 +3,6 @@
 #![tactic(auto)]
 
 use anyhow::anyhow;
-use question::split_line;
 use statement::statement;
 use std::env;
 use std::io::{Read, Write};
@@ -15,6 +14,7 @@ fn main(rt: HostRuntime) -> anyhow::Result<()> {
 }
 
 fn run(rt: &HostRuntime) -> anyhow::Result<()> {
+    // Kept: each program reads its input up to a bound of its own, and has its own words for what goes wrong.
     let mut input = Vec::new(rt.alloc());
     rt.stdin().take(MOST_INPUT).read_to_end(&mut input)?;
     let output = settle_cases(rt, input.as_slice(), times(rt)?)?;
@@ -24,9 +24,7 @@ fn run(rt: &HostRuntime) -> anyhow::Result<()> {
 
 // How many times each sheet is settled.
 fn times(rt: &HostRuntime) -> anyhow::Result<u32> {
-    let mut words = env::args(rt)?;
-    let _program = words.next();
-    match words.next() {
+    match env::args(rt)?.nth(1) {
         Some(word) => Ok(word.parse::<u32>()?),
         None => Ok(1),
     }
@@ -34,11 +32,9 @@ fn times(rt: &HostRuntime) -> anyhow::Result<u32> {
 
 fn settle_cases(rt: &HostRuntime, text: &[u8], times: u32) -> anyhow::Result<Vec<u8>> {
     let mut output = Vec::new(rt.alloc());
-    let mut rest = text;
-    while !rest.is_empty() {
-        let (line, after) = split_line(rest);
+    for line in text.split_inclusive(|byte| *byte == b'\n') {
+        let line = line.strip_suffix(b"\n").unwrap_or(line);
         settle_case(rt, line, times, &mut output)?;
-        rest = after;
     }
     Ok(output)
 }
@@ -64,40 +60,30 @@ fn settle_case(
 
 // What stands before the first space, and what stands after it.
 fn split_name(line: &[u8]) -> (&[u8], &[u8]) {
-    for (i, byte) in line.iter().enumerate() {
-        if *byte == b' ' {
-            return (&line[0..i], &line[i + 1..]);
-        }
+    match line.iter().position(|byte| *byte == b' ') {
+        Some(space) => (&line[..space], &line[space + 1..]),
+        None => (line, b""),
     }
-    (line, b"")
 }
 
 // Each two digits are a byte.
 fn bytes_of(rt: &HostRuntime, digits: &[u8]) -> anyhow::Result<Vec<u8>> {
     let mut bytes = Vec::new(rt.alloc());
-    let mut high: Option<u8> = None;
-    for digit in digits {
-        let Some(value) = value_of(*digit) else {
-            return Err(anyhow!("a case is not in hexadecimal digits"));
-        };
-        match high {
-            None => high = Some(value),
-            Some(first) => {
-                bytes.push(first.wrapping_mul(16).wrapping_add(value))?;
-                high = None;
-            }
-        }
+    let (pairs, rest) = digits.as_chunks::<2>();
+    for [high, low] in pairs {
+        bytes.push(value_of(*high)? << 4 | value_of(*low)?)?;
     }
-    if high.is_some() {
+    if let [digit] = rest {
+        let _ = value_of(*digit)?;
         return Err(anyhow!("a case has an odd number of hexadecimal digits"));
     }
     Ok(bytes)
 }
 
-fn value_of(digit: u8) -> Option<u8> {
+fn value_of(digit: u8) -> anyhow::Result<u8> {
     match digit {
-        b'0'..=b'9' => Some(digit - b'0'),
-        b'a'..=b'f' => Some(digit - b'a' + 10),
-        _ => None,
+        b'0'..=b'9' => Ok(digit - b'0'),
+        b'a'..=b'f' => Ok(digit - b'a' + 10),
+        _ => Err(anyhow!("a case is not in hexadecimal digits")),
     }
 }

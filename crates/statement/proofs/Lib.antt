@@ -1,5 +1,4 @@
 mod Issues
 mod Metered
-mod Texts
 mod Unissued
 mod Wholes

@@ -55,15 +55,12 @@ fn issue_plant<R: Share>(
     ensures issued { OnOk result (ledger_of R.Share.shares book.new ≡ accepted (ledger_of R.Share.shares book.old) (Issue plant)) }
 {
     let settlement = settle_plant(heap, book, plant)?;
-    let Ok(payment) = book.issue(plant) else {
-        unreachable()
-    };
     Ok(PlantLine {
         plant,
         metered: reading.metered,
         over_generation: settlement.over_generation,
         shortfall: settlement.shortfall,
-        payment,
+        payment: book.issue(plant).unwrap(),
     })
 }
 
@@ -74,8 +71,6 @@ fn settle_plant<R: Share>(heap: Global, book: &Book<R>, plant: u8) -> Result<Set
     let count = book.contract_count(plant);
     let mut energies = vec![in heap; Energy::from_kwh(0); count]?;
     let mut amounts = vec![in heap; Grains::from_count(0); count]?;
-    match book.settle(plant, energies.as_mut_slice(), amounts.as_mut_slice()) {
-        Ok(settlement) => Ok(settlement),
-        Err(_) => unreachable(),
-    }
+    let settlement = book.settle(plant, energies.as_mut_slice(), amounts.as_mut_slice());
+    Ok(settlement.unwrap())
 }

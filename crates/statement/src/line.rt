@@ -17,24 +17,26 @@ pub struct PlantLine {
 }
 
 // Plant, metered energy, over-generation, shortfall and payment in fen.
+#[tactic(auto, unfolding(crate::specs::Lines::plant_text))]
 pub fn plant_line(heap: Global, line: PlantLine) -> Result<String, AllocError>
     ensures { IfOk result (λ s. string_bytes s ≡ plant_text line) }
 {
-    let plant = line.plant;
-    let metered = line.metered.kwh();
-    let over_generation = line.over_generation.kwh();
-    let shortfall = line.shortfall.kwh();
-    let payment = line.payment.count();
-    format!(in heap; "{plant} {metered} {over_generation} {shortfall} {payment}\n")
+    format!(in heap;
+        "{} {} {} {} {}\n",
+        line.plant, line.metered, line.over_generation, line.shortfall, line.payment,
+    )
 }
 
 // The word fault, then layer, number, offset and item.
+#[tactic(auto, unfolding(crate::specs::Lines::fault_text))]
 pub fn fault_line(heap: Global, fault: Fault) -> Result<String, AllocError>
     ensures { IfOk result (λ s. string_bytes s ≡ fault_text fault) }
 {
-    let layer = fault.cause.layer();
-    let number = fault.cause.number();
-    let offset = fault.offset;
-    let item = fault.item;
-    format!(in heap; "fault {layer} {number} {offset} {item}\n")
+    format!(in heap;
+        "fault {} {} {} {}\n",
+        fault.cause.layer(),
+        fault.cause.number(),
+        fault.offset,
+        fault.item,
+    )
 }

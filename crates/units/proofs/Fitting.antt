@@ -1,36 +1,18 @@
--- Grains and hundredths that fit, and those that do not. Assumes nothing.
-use Rattle.std.proofs.Common.{◌≡◌, ℕ, ◌^◌, ◌<◌, ◌≤◌, true, ℤ, pos, negsuc, nat_abs, is_some, Some, None, Option, sym, ap, ◌∙◌, ⊎_elim, arith, w64, SFits, to_z, of_z}
+-- Grains and hundredths that fit. Assumes nothing.
+use Rattle.std.proofs.Common.{◌≡◌, ℕ, ◌^◌, ◌<◌, ◌≤◌, true, ℤ, pos, negsuc, nat_abs, is_some, Some, Option, sym, ap, ◌∙◌, arith, w64, SFits}
 use lib.Signed.{mag}
 use Rattle.units.specs.declared.energy.Hundredths.{Hundredths}
 use Rattle.units.specs.declared.money.Grains.{Grains}
-use Rattle.std.proofs.lemmas.Bool.{lt-ltb, le-ltb, cases_lt, cond-true, cond-false}
-use Rattle.std.proofs.lemmas.Int.{to_z-of_z}
+use Rattle.std.proofs.lemmas.Bool.{lt-ltb, cond-true}
 use Rattle.units.specs.Fits.{grains, grains_if, hundredths_if}
 
 pub grains_some : (z : ℤ) → SFits w64 z → grains_if z ≡ Some (grains z)
 unfolding grains_if
 grains_some z f = cond-true _ _ _ (lt-ltb (mag z) (2 ^ 63) f.sfits)
 
-pub grains_none : (z : ℤ) → (SFits w64 z → ⊥) → grains_if z ≡ None
-unfolding grains_if
-grains_none z n =
-    cond-false _ _ _ (le-ltb (mag z) (2 ^ 63) (⊎_elim (λ h. absurd (n (record { sfits = h }))) (λ h. h) (cases_lt (mag z) (2 ^ 63))))
-
--- the same, of a number y that the code has for z
-pub some_as : (y z x : ℤ) → y ≡ z → SFits w64 y × (x ≡ y) → Some (grains (to_z w64 (of_z w64 x))) ≡ grains_if z
-some_as y z x e told =
-    ap (λ v. Some (grains (to_z w64 (of_z w64 v)))) told.1 ∙ ap (λ v. Some (grains v)) (to_z-of_z w64 y told.0) ∙ sym (grains_some y told.0) ∙ ap grains_if e
-
-pub none_as : (y z : ℤ) → y ≡ z → (SFits w64 y → ⊥) → None ≡ grains_if z
-none_as y z e n = sym (grains_none y n) ∙ ap grains_if e
-
 pub hundredths_some : (n : ℕ) → n < 2 ^ 64 → hundredths_if n ≡ Some (record { count = n })
 unfolding hundredths_if
 hundredths_some n h = cond-true _ _ _ (lt-ltb n (2 ^ 64) h)
-
-pub hundredths_none : (n : ℕ) → 2 ^ 64 ≤ n → hundredths_if n ≡ None
-unfolding hundredths_if
-hundredths_none n h = cond-false _ _ _ (le-ltb n (2 ^ 64) h)
 
 -- for a caller: grains and hundredths that fit are there, and are what was asked for
 mag_le : (z : ℤ) → mag z ≤ nat_abs z

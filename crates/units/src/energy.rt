@@ -1,8 +1,9 @@
-ghost use Rattle.std.specs.Prelude.{◌≡◌, ◌*◌, pos, nat_le};
+ghost use Rattle.std.specs.Prelude.{◌≡◌, ◌*◌, pos, nat_le, Some, decimal};
 ghost use Rattle.units.specs.Fits.{hundredths_if, grains_if};
 
 use crate::money::Grains;
 use crate::price::Price;
+use std::fmt;
 
 // An energy in whole kWh.
 #[derive(Clone, Copy, PartialEq, Eq, PartialOrd, Ord, Debug)]
@@ -53,6 +54,16 @@ impl Energy {
     }
 }
 
+// The kWh, without the unit.
+impl fmt::Display for Energy {
+    ghost output = { λ energy. Some (decimal energy.kwh) };
+
+    fn fmt<W: fmt::Write>(&self, f: &mut fmt::Formatter<W>) -> fmt::Result {
+        let kwh = self.kwh;
+        fmt::Display::fmt(&kwh, f)
+    }
+}
+
 impl Hundredths {
     pub fn from_count(count: u64) -> Hundredths
         ensures { result.count ≡ count }
@@ -69,10 +80,7 @@ impl Hundredths {
     fn from_wide(count: u128) -> Option<Hundredths>
         ensures { result ≡ hundredths_if count }
     {
-        match u64::try_from(count) {
-            Ok(count) => Some(Hundredths { count }),
-            Err(_) => None,
-        }
+        u64::try_from(count).ok().map(Hundredths::from_count)
     }
 
     // Hundredths at a price give grains, where they fit.
@@ -80,5 +88,15 @@ impl Hundredths {
         ensures { result ≡ grains_if (pos (self.count * price.micro)) }
     {
         Grains::from_product(u128::from(self.count), price.micro_yuan())
+    }
+}
+
+// The hundredths of a kWh, without the unit.
+impl fmt::Display for Hundredths {
+    ghost output = { λ energy. Some (decimal energy.count) };
+
+    fn fmt<W: fmt::Write>(&self, f: &mut fmt::Formatter<W>) -> fmt::Result {
+        let hundredths = self.count;
+        fmt::Display::fmt(&hundredths, f)
     }
 }

@@ -1,5 +1,6 @@
 // The quantities of a settlement, told apart: each is a number in a struct of its own, made, read and
 // converted only by named functions.
+// Kept: a struct for each quantity, alike but for name and number; one generic struct would print and convert all of them alike.
 #![tactic(auto)]
 
 mod energy;

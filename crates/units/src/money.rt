@@ -1,6 +1,9 @@
-ghost use Rattle.std.specs.Prelude.{◌≡◌, ◌*◌, ◌^◌, ◌≤◌, pos, ◌+ℤ◌, ◌-ℤ◌, ◌*ℤ◌, neg_ℤ};
+ghost use Rattle.std.specs.Prelude.{◌≡◌, ◌*◌, ◌^◌, ◌≤◌, pos, ◌+ℤ◌, ◌-ℤ◌, ◌*ℤ◌, neg_ℤ, Some};
+ghost use Rattle.std.specs.Fmt.{signed_decimal};
 ghost use Rattle.units.specs.Fits.{grains_if};
 ghost use Rattle.units.specs.Limits.{compensation, side_balance};
+
+use std::fmt;
 
 // Money in grains of 0.00000001 yuan, signed.
 #[derive(Clone, Copy, PartialEq, Eq, PartialOrd, Ord, Debug)]
@@ -37,7 +40,7 @@ impl Grains {
     pub fn within_side_limit(self) -> bool
         ensures { result ≡ side_balance self.count }
     {
-        -MOST_SIDE_BALANCE <= self.count && self.count <= MOST_SIDE_BALANCE
+        (-MOST_SIDE_BALANCE..=MOST_SIDE_BALANCE).contains(&self.count)
     }
 
     pub fn checked_add(self, other: Grains) -> Option<Grains>
@@ -61,10 +64,7 @@ impl Grains {
     pub(crate) fn from_signed(count: i128) -> Option<Grains>
         ensures { result ≡ grains_if count }
     {
-        match i64::try_from(count) {
-            Ok(count) => Some(Grains { count }),
-            Err(_) => None,
-        }
+        i64::try_from(count).ok().map(Grains::from_count)
     }
 
     // Hundredths of a kWh times micro-yuan for each kWh, where they fit.
@@ -72,10 +72,19 @@ impl Grains {
         requires { hundredths ≤ 2 ^ 71 }
         ensures { result ≡ grains_if (pos (hundredths * micro)) }
     {
-        match i64::try_from(hundredths * u128::from(micro)) {
-            Ok(count) => Some(Grains { count }),
-            Err(_) => None,
-        }
+        i64::try_from(hundredths * u128::from(micro))
+            .ok()
+            .map(Grains::from_count)
+    }
+}
+
+// The grains with their sign, without the unit.
+impl fmt::Display for Grains {
+    ghost output = { λ money. Some (signed_decimal money.count) };
+
+    fn fmt<W: fmt::Write>(&self, f: &mut fmt::Formatter<W>) -> fmt::Result {
+        let grains = self.count;
+        fmt::Display::fmt(&grains, f)
     }
 }
 
@@ -96,7 +105,7 @@ impl Fen {
     pub fn within_compensation_limit(self) -> bool
         ensures { result ≡ compensation self.count }
     {
-        0 <= self.count && self.count <= MOST_COMPENSATION
+        (0..=MOST_COMPENSATION).contains(&self.count)
     }
 
     // The same money in grains, where they fit.
@@ -104,5 +113,15 @@ impl Fen {
         ensures { result ≡ grains_if (self.count *ℤ pos 1000000) }
     {
         Grains::from_signed(i128::from(self.count) * i128::from(GRAINS_IN_FEN))
+    }
+}
+
+// The fen with their sign, without the unit.
+impl fmt::Display for Fen {
+    ghost output = { λ money. Some (signed_decimal money.count) };
+
+    fn fmt<W: fmt::Write>(&self, f: &mut fmt::Formatter<W>) -> fmt::Result {
+        let fen = self.count;
+        fmt::Display::fmt(&fen, f)
     }
 }

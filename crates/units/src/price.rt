@@ -1,4 +1,6 @@
-ghost use Rattle.std.specs.Prelude.{◌≡◌, nat_le};
+ghost use Rattle.std.specs.Prelude.{◌≡◌, nat_le, Some, decimal};
+
+use std::fmt;
 
 // A price in micro-yuan for each kWh.
 #[derive(Clone, Copy, PartialEq, Eq, PartialOrd, Ord, Debug)]
@@ -26,5 +28,15 @@ impl Price {
         ensures { result ≡ nat_le self.micro 1000000 }
     {
         self.micro <= MOST_MICRO_YUAN
+    }
+}
+
+// The micro-yuan for each kWh, without the unit.
+impl fmt::Display for Price {
+    ghost output = { λ price. Some (decimal price.micro) };
+
+    fn fmt<W: fmt::Write>(&self, f: &mut fmt::Formatter<W>) -> fmt::Result {
+        let micro = self.micro;
+        fmt::Display::fmt(&micro, f)
     }
 }

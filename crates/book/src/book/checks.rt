@@ -1,71 +1,96 @@
 // Which calls are declined. A check changes nothing; the effects stand in another file.
-ghost use Rattle.std.specs.Prelude.{◌≡◌, ◌≤◌, true, ◌+ℤ◌, neg_ℤ, is_some, IfSome, IfOk, Some, OnOk, ◌≢◌, unsigned_abs};
+ghost use Rattle.std.specs.Prelude.{◌≡◌, ◌≤◌, true, false, ◌+ℤ◌, IfOk, MatchResult, Some, ◌≢◌, unsigned_abs};
 ghost use Rattle.units.specs.Fees.{fee_of};
 ghost use Rattle.units.specs.Limits.{side_balance};
-ghost use Rattle.book.specs.Accounts.{account_of};
+ghost use Rattle.book.specs.Accounts.{account_of, is_enrolled};
 ghost use Rattle.market.specs.Kinds.{class_of, rank_of};
-ghost use Rattle.book.specs.Calls.{declined, declined_by, enrol_within, enter_within, transfer_within, either_closed, trade_allowed, transfer_past, unshared, ByShares};
+ghost use Rattle.book.specs.Calls.{declined, declined_by, accepted, enrol_within, enter_within, trade_allowed, transfer_past, unshared, ByShares};
 ghost use Rattle.book.specs.Holds.{ledger_of};
-ghost use Rattle.book.specs.Rows.{plant_ok, row_of};
+ghost use Rattle.book.specs.Ledgers.{with_rows};
+ghost use Rattle.book.specs.Rows.{plant_ok, row_of, with_row};
 
 use super::Book;
-use super::questions::known_plant;
+use crate::account::{Account, reversed};
 use crate::call::Call;
-use crate::condition::any;
+use crate::order::Order;
+use crate::plant::Plant;
 use crate::refusal::Refusal;
 use crate::row::Row;
-use market::{Class, Rank};
+use market::{Class, Contract, Rank};
 use sharing::Share;
 use units::{Energy, Fen, Grains, Price, fee};
 
 impl<R: Share> Book<R> {
-    pub(crate) fn may_enrol(&self, plant: u8, class: u8, approved: Price) -> Result<Class, Refusal>
-        ensures answer { declined_by result ≡ declined (ledger_of R.Share.shares self.now) (Call.Enrol plant class approved) }
-        ensures kind { IfOk result (λ k. (class_of class ≡ Some k) × (plant_ok plant ≡ true)) }
+    // The account of a plant, which has to be enrolled.
+    pub(crate) fn enrolled(&self, plant: Plant) -> Result<Account, Refusal>
+        ensures { MatchResult result
+            (λ a. (a ≡ account_of plant.number (ledger_of R.Share.shares self.now).accounts) × (is_enrolled a ≡ true))
+            (λ why. (is_enrolled (account_of plant.number (ledger_of R.Share.shares self.now).accounts) ≡ false) × (why ≡ Refusal.NotEnrolled)) }
     {
-        let Some(kind) = class_within(plant, class, approved) else {
-            return Err(Refusal::PastLimit);
-        };
+        let account = self.accounts.at(plant);
+        if account.enrolment.is_none() {
+            return Err(Refusal::NotEnrolled);
+        }
+        Ok(account)
+    }
+
+    // Answers the class that a number names.
+    pub(crate) fn may_enrol(
+        &self,
+        plant: Plant,
+        class: u8,
+        approved: Price,
+    ) -> Result<Class, Refusal>
+        ensures answer { declined_by result ≡ declined (ledger_of R.Share.shares self.now) (Call.Enrol plant.number class approved) }
+        ensures kind { IfOk result (λ k. class_of class ≡ Some k) }
+    {
+        let class = class_within(plant, class, approved)?;
         if self.accounts.at(plant).enrolment.is_some() {
             return Err(Refusal::AlreadyThere);
         }
-        Ok(kind)
+        Ok(class)
     }
 
+    // Answers the contract as it will stand in the book.
     pub(crate) fn may_enter(
         &self,
         number: u32,
-        plant: u8,
+        plant: Plant,
         rank: u8,
         energy: Energy,
         price: Price,
-    ) -> Result<Rank, Refusal>
-        ensures answer { declined_by result ≡ declined (ledger_of R.Share.shares self.now) (Call.Enter number plant rank energy price) }
-        ensures kind { IfOk result (λ k. rank_of rank ≡ Some k) }
+    ) -> Result<Row, Refusal>
+        ensures answer { declined_by result ≡ declined (ledger_of R.Share.shares self.now) (Call.Enter number plant.number rank energy price) }
+        ensures row { IfOk result (λ c. accepted (ledger_of R.Share.shares self.now) (Call.Enter number plant.number rank energy price) ≡ with_rows (with_row c (ledger_of R.Share.shares self.now).rows) (ledger_of R.Share.shares self.now)) }
     {
-        let Some(kind) = rank_within(number, plant, rank, energy, price) else {
-            return Err(Refusal::PastLimit);
-        };
+        let rank = rank_within(number, plant, rank, energy, price)?;
         let account = self.accounts.at(plant);
-        let Some(enrolment) = account.enrolment else {
-            return Err(Refusal::NotEnrolled);
-        };
+        let enrolment = account.enrolment.ok_or(Refusal::NotEnrolled)?;
         if self.contracts.find(number).is_some() {
             return Err(Refusal::AlreadyThere);
         }
         if account.closed {
             return Err(Refusal::Closed);
         }
-        if !enrolment.class.may_hold(kind) {
+        if !enrolment.class.may_hold(rank) {
             return Err(Refusal::NotPermitted);
         }
         if self.contracts.is_full() {
             return Err(Refusal::Full);
         }
-        if self.contracts.plant_sum(plant).kwh() + energy.kwh() > 3_000_000_000 {
+        let sum = self.contracts.plant_sum(plant.number).kwh() + energy.kwh();
+        if !Energy::from_kwh(sum).within_limit() {
             return Err(Refusal::SumPastLimit);
         }
-        Ok(kind)
+        Ok(Row {
+            number,
+            plant: plant.number,
+            contract: Contract {
+                rank,
+                energy,
+                price,
+            },
+        })
     }
 
     pub(crate) fn may_amend(&self, number: u32, energy: Energy) -> Result<(), Refusal>
@@ -74,14 +99,12 @@ impl<R: Share> Book<R> {
         if number == 0 || !energy.within_limit() {
             return Err(Refusal::PastLimit);
         }
-        let Some(row) = self.contracts.find(number) else {
-            return Err(Refusal::NoContract);
-        };
-        if self.accounts.at(row.plant).closed {
+        let row = self.contracts.find(number).ok_or(Refusal::NoContract)?;
+        if self.accounts.at(Plant::holding(row)).closed {
             return Err(Refusal::Closed);
         }
         let rest = self.contracts.plant_sum(row.plant).kwh() - row.contract.energy.kwh();
-        if rest + energy.kwh() > 3_000_000_000 {
+        if !Energy::from_kwh(rest + energy.kwh()).within_limit() {
             return Err(Refusal::SumPastLimit);
         }
         Ok(())
@@ -89,20 +112,16 @@ impl<R: Share> Book<R> {
 
     pub(crate) fn may_meter(
         &self,
-        plant: u8,
+        plant: Plant,
         metered: Energy,
         commissioning: Energy,
     ) -> Result<(), Refusal>
-        ensures answer { declined_by result ≡ declined (ledger_of R.Share.shares self.now) (Call.Meter plant metered commissioning) }
-        ensures plant { OnOk result (plant_ok plant ≡ true) }
+        ensures { declined_by result ≡ declined (ledger_of R.Share.shares self.now) (Call.Meter plant.number metered commissioning) }
     {
-        if !known_plant(plant) || !metered.within_limit() || !commissioning.within_limit() {
+        if !metered.within_limit() || !commissioning.within_limit() {
             return Err(Refusal::PastLimit);
         }
-        let account = self.accounts.at(plant);
-        if account.enrolment.is_none() {
-            return Err(Refusal::NotEnrolled);
-        }
+        let account = self.enrolled(plant)?;
         if account.closed {
             return Err(Refusal::Closed);
         }
@@ -112,17 +131,10 @@ impl<R: Share> Book<R> {
         Ok(())
     }
 
-    pub(crate) fn may_issue(&self, plant: u8) -> Result<(), Refusal>
-        ensures answer { declined_by result ≡ declined (ledger_of R.Share.shares self.now) (Call.Issue plant) }
-        ensures plant { OnOk result (plant_ok plant ≡ true) }
+    pub(crate) fn may_issue(&self, plant: Plant) -> Result<(), Refusal>
+        ensures { declined_by result ≡ declined (ledger_of R.Share.shares self.now) (Call.Issue plant.number) }
     {
-        if !known_plant(plant) {
-            return Err(Refusal::PastLimit);
-        }
-        let account = self.accounts.at(plant);
-        if account.enrolment.is_none() {
-            return Err(Refusal::NotEnrolled);
-        }
+        let account = self.enrolled(plant)?;
         if account.issued.is_some() {
             return Err(Refusal::AlreadyThere);
         }
@@ -133,24 +145,15 @@ impl<R: Share> Book<R> {
     }
 
     // Answers the net at issue.
-    pub(crate) fn may_close(&self, plant: u8) -> Result<Grains, Refusal>
-        ensures answer { declined_by result ≡ declined (ledger_of R.Share.shares self.now) (Call.Close plant) }
-        ensures issued { IfOk result (λ n. (plant_ok plant ≡ true) × ((account_of plant (ledger_of R.Share.shares self.now).accounts).issued ≡ Some n)) }
+    pub(crate) fn may_close(&self, plant: Plant) -> Result<Grains, Refusal>
+        ensures answer { declined_by result ≡ declined (ledger_of R.Share.shares self.now) (Call.Close plant.number) }
+        ensures issued { IfOk result (λ n. (account_of plant.number (ledger_of R.Share.shares self.now).accounts).issued ≡ Some n) }
     {
-        if !known_plant(plant) {
-            return Err(Refusal::PastLimit);
-        }
-        let account = self.accounts.at(plant);
-        if account.enrolment.is_none() {
-            return Err(Refusal::NotEnrolled);
-        }
+        let account = self.enrolled(plant)?;
         if account.closed {
             return Err(Refusal::Closed);
         }
-        let Some(net) = account.issued else {
-            return Err(Refusal::NotReady);
-        };
-        Ok(net)
+        account.issued.ok_or(Refusal::NotReady)
     }
 
     pub(crate) fn may_turn(&self, residential: Price) -> Result<(), Refusal>
@@ -159,7 +162,7 @@ impl<R: Share> Book<R> {
         if !residential.within_limit() {
             return Err(Refusal::PastLimit);
         }
-        if any::<crate::condition::Unclosed>(self.accounts.as_slice()) {
+        if self.accounts.iter().any(Account::is_unclosed) {
             return Err(Refusal::NotReady);
         }
         Ok(())
@@ -167,83 +170,60 @@ impl<R: Share> Book<R> {
 }
 
 impl<R: Share> Book<R> {
-    fn either_closed(&self, row: Row, receiver: u8) -> bool
-        requires giver { plant_ok row.plant ≡ true }
-        requires receiver { plant_ok receiver ≡ true }
-        ensures { result ≡ either_closed (ledger_of R.Share.shares self.now) receiver row }
+    #[tactic(auto, unfolding(crate::specs::Calls::trade_allowed))]
+    fn trade_allowed(&self, row: Row, receiver: Plant) -> bool
+        requires { plant_ok row.plant ≡ true }
+        ensures { result ≡ trade_allowed (ledger_of R.Share.shares self.now) receiver.number row }
     {
-        self.accounts.at(row.plant).closed || self.accounts.at(receiver).closed
-    }
-
-    fn trade_allowed(&self, row: Row, receiver: u8) -> bool
-        requires giver { plant_ok row.plant ≡ true }
-        requires receiver { plant_ok receiver ≡ true }
-        ensures { result ≡ trade_allowed (ledger_of R.Share.shares self.now) receiver row }
-    {
-        let Some(giving) = self.accounts.at(row.plant).enrolment else {
-            return false;
-        };
-        let Some(taking) = self.accounts.at(receiver).enrolment else {
-            return false;
-        };
-        giving.class.may_transfer()
-            && taking.class.may_transfer()
-            && taking.class.may_hold(row.contract.rank)
-            && row.plant != receiver
+        let giving = self.accounts.at(Plant::holding(row)).enrolment;
+        let taking = self.accounts.at(receiver).enrolment;
+        giving.is_some_and(|giving| giving.class.may_transfer())
+            && taking.is_some_and(|taking| {
+                taking.class.may_transfer() && taking.class.may_hold(row.contract.rank)
+            })
+            && row.plant != receiver.number
     }
 
     // Whether a transfer that is allowed would pass a limit.
-    fn transfer_past(&self, new: u32, receiver: u8, energy: Energy, price: Price, row: Row) -> bool
-        requires receiver { plant_ok receiver ≡ true }
-        requires energy { energy.kwh ≤ 3000000000 }
-        requires price { price.micro ≤ 1000000 }
+    fn transfer_past(&self, order: Order, row: Row) -> bool
         requires row { row_of row.number (ledger_of R.Share.shares self.now).rows ≡ Some row }
-        requires apart { row.plant ≢ receiver }
-        ensures { result ≡ transfer_past (ledger_of R.Share.shares self.now) new receiver energy price row }
+        requires apart { row.plant ≢ order.receiver.number }
+        ensures { result ≡ transfer_past (ledger_of R.Share.shares self.now) order.new order.receiver.number order.energy order.price row }
     {
-        let paid = transfer_fee(energy, row.contract.price, price);
-        self.contracts.plant_sum(receiver).kwh() + energy.kwh() > 3_000_000_000
-            || !side_allows(self.accounts.at(row.plant).side, paid)
-            || !side_allows(self.accounts.at(receiver).side, reversed(paid))
+        let paid = transfer_fee(order.energy, row.contract.price, order.price);
+        let giving = self.accounts.at(Plant::holding(row)).side;
+        let taking = self.accounts.at(order.receiver).side;
+        let held = self.contracts.plant_sum(order.receiver.number);
+        !Energy::from_kwh(held.kwh() + order.energy.kwh()).within_limit()
+            || !side_allows(giving, paid)
+            || !side_allows(taking, reversed(paid))
     }
 
     // Answers the contract that gives.
-    pub(crate) fn may_transfer(
-        &self,
-        new: u32,
-        old: u32,
-        receiver: u8,
-        energy: Energy,
-        price: Price,
-    ) -> Result<Row, Refusal>
-        ensures answer { declined_by result ≡ declined (ledger_of R.Share.shares self.now) (Call.Transfer new old receiver energy price) }
-        ensures row { IfOk result (λ c. row_of old (ledger_of R.Share.shares self.now).rows ≡ Some c) }
+    #[tactic(auto, unfolding(crate::specs::Calls::either_closed))]
+    pub(crate) fn may_transfer(&self, order: Order) -> Result<Row, Refusal>
+        ensures answer { declined_by result ≡ declined (ledger_of R.Share.shares self.now) (Call.Transfer order.new order.old order.receiver.number order.energy order.price) }
+        ensures row { IfOk result (λ c. row_of order.old (ledger_of R.Share.shares self.now).rows ≡ Some c) }
     {
-        if !transfer_within(new, old, receiver, energy, price) {
-            return Err(Refusal::PastLimit);
-        }
-        if self.accounts.at(receiver).enrolment.is_none() {
-            return Err(Refusal::NotEnrolled);
-        }
-        let Some(row) = self.contracts.find(old) else {
-            return Err(Refusal::NoContract);
-        };
-        if self.contracts.find(new).is_some() {
+        self.enrolled(order.receiver)?;
+        let row = self.contracts.find(order.old).ok_or(Refusal::NoContract)?;
+        if self.contracts.find(order.new).is_some() {
             return Err(Refusal::AlreadyThere);
         }
-        if self.either_closed(row, receiver) {
+        let giver = self.accounts.at(Plant::holding(row));
+        if giver.closed || self.accounts.at(order.receiver).closed {
             return Err(Refusal::Closed);
         }
-        if !self.trade_allowed(row, receiver) {
+        if !self.trade_allowed(row, order.receiver) {
             return Err(Refusal::NotPermitted);
         }
-        if row.contract.energy.kwh() < energy.kwh() {
+        if row.contract.energy.kwh() < order.energy.kwh() {
             return Err(Refusal::TooMuch);
         }
         if self.contracts.is_full() {
             return Err(Refusal::Full);
         }
-        if self.transfer_past(new, receiver, energy, price, row) {
+        if self.transfer_past(order, row) {
             return Err(Refusal::SumPastLimit);
         }
         Ok(row)
@@ -255,22 +235,19 @@ impl<R: Share> Book<R> {
     fn unshared(&self) -> bool
         ensures { result ≡ unshared (ledger_of R.Share.shares self.now) }
     {
-        let accounts = self.accounts.as_slice();
-        any::<crate::condition::Unmetered>(accounts)
-            || !any::<crate::condition::Generated>(accounts)
+        self.accounts.iter().any(Account::is_unmetered)
+            || !self.accounts.iter().any(Account::has_generated)
     }
 
     // What comes before the shares of a compensation are known. Answers the amount.
-    pub(crate) fn may_compensate(&self, plant: u8, amount: Fen) -> Result<u64, Refusal>
-        ensures { ByShares (ledger_of R.Share.shares self.now) plant amount result }
+    pub(crate) fn may_compensate(&self, plant: Plant, amount: Fen) -> Result<u64, Refusal>
+        ensures { ByShares (ledger_of R.Share.shares self.now) plant.number amount result }
     {
-        if !known_plant(plant) || !amount.within_compensation_limit() {
+        if !amount.within_compensation_limit() {
             return Err(Refusal::PastLimit);
         }
-        if self.accounts.at(plant).enrolment.is_none() {
-            return Err(Refusal::NotEnrolled);
-        }
-        if any::<crate::condition::Closed>(self.accounts.as_slice()) {
+        self.enrolled(plant)?;
+        if self.accounts.iter().any(|account| account.closed) {
             return Err(Refusal::Closed);
         }
         if self.unshared() {
@@ -281,37 +258,35 @@ impl<R: Share> Book<R> {
 }
 
 // The class that a number names, where the figures of an enrolment are within their limits.
-fn class_within(plant: u8, class: u8, approved: Price) -> Option<Class>
-    ensures value { is_some result ≡ enrol_within plant class approved }
-    ensures kind { IfSome result (λ k. (class_of class ≡ Some k) × (plant_ok plant ≡ true)) }
+#[tactic(auto, unfolding(crate::specs::Calls::enrol_within))]
+fn class_within(plant: Plant, class: u8, approved: Price) -> Result<Class, Refusal>
+    ensures { MatchResult result
+        (λ k. (enrol_within plant.number class approved ≡ true) × (class_of class ≡ Some k))
+        (λ why. (enrol_within plant.number class approved ≡ false) × (why ≡ Refusal.PastLimit)) }
 {
-    if !known_plant(plant) || !approved.within_limit() {
-        return None;
+    if !approved.within_limit() {
+        return Err(Refusal::PastLimit);
     }
-    Class::from_number(class)
+    Ok(Class::try_from(class)?)
 }
 
 // The rank that a number names, where the figures of a contract are within their limits.
-fn rank_within(number: u32, plant: u8, rank: u8, energy: Energy, price: Price) -> Option<Rank>
-    ensures value { is_some result ≡ enter_within number plant rank energy price }
-    ensures kind { IfSome result (λ k. (rank_of rank ≡ Some k) × (plant_ok plant ≡ true) × (energy.kwh ≤ 3000000000)) }
+#[tactic(auto, unfolding(crate::specs::Calls::enter_within))]
+fn rank_within(
+    number: u32,
+    plant: Plant,
+    rank: u8,
+    energy: Energy,
+    price: Price,
+) -> Result<Rank, Refusal>
+    ensures { MatchResult result
+        (λ k. (enter_within number plant.number rank energy price ≡ true) × (rank_of rank ≡ Some k) × (energy.kwh ≤ 3000000000))
+        (λ why. (enter_within number plant.number rank energy price ≡ false) × (why ≡ Refusal.PastLimit)) }
 {
-    if number == 0 || !known_plant(plant) || !energy.within_limit() || !price.within_limit() {
-        return None;
+    if number == 0 || !energy.within_limit() || !price.within_limit() {
+        return Err(Refusal::PastLimit);
     }
-    Rank::from_number(rank)
-}
-
-fn transfer_within(new: u32, old: u32, receiver: u8, energy: Energy, price: Price) -> bool
-    ensures value { result ≡ transfer_within new old receiver energy price }
-    ensures parts { result ≡ true → (plant_ok receiver ≡ true) × (energy.kwh ≤ 3000000000) × (price.micro ≤ 1000000) }
-{
-    new >= 1
-        && old >= 1
-        && known_plant(receiver)
-        && energy.kwh() >= 1
-        && energy.within_limit()
-        && price.within_limit()
+    Ok(Rank::try_from(rank)?)
 }
 
 // The fee that the receiver pays to the giver.
@@ -323,13 +298,6 @@ pub(crate) fn transfer_fee(energy: Energy, contract: Price, transfer: Price) -> 
     ensures bound { unsigned_abs result.count ≤ 300000000000000000 }
 {
     fee(energy, contract, transfer).unwrap()
-}
-
-pub(crate) fn reversed(amount: Grains) -> Grains
-    requires { unsigned_abs amount.count ≤ 300000000000000000 }
-    ensures { result.count ≡ neg_ℤ amount.count }
-{
-    amount.checked_neg().unwrap()
 }
 
 fn side_allows(side: Grains, amount: Grains) -> bool

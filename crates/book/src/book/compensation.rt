@@ -1,17 +1,17 @@
 // Compensations: one plant is credited, and all enrolled plants bear it.
-ghost use Rattle.std.specs.Prelude.{◌≡◌, ℕ, ◌*◌, ◌<◌, ◌≤◌, true, length, pos, sum, slice_index};
+ghost use Rattle.std.specs.Prelude.{◌≡◌, ℕ, ◌<◌, ◌≤◌, true, length, sum, slice_index};
 ghost use Rattle.book.specs.Accounts.{any_account, has_generated, compensated as accounts_compensated};
 ghost use Rattle.book.specs.Calls.{Makes, told};
 ghost use Rattle.book.specs.Holds.{ledger_of};
-ghost use Rattle.book.specs.Rows.{plant_ok};
 
 use super::Book;
+use crate::account::{Account, credit};
 use crate::accounts::{AccountTable, PLANTS};
 use crate::call::Call;
-use crate::condition::any;
+use crate::plant::Plant;
 use crate::refusal::Refusal;
 use sharing::Share;
-use units::{Fen, Grains};
+use units::Fen;
 
 // Asks the rule for a share that it never declines.
 fn share_out<R: Share>(rule: &R, claims: &[u64], total: u64, parts: &mut [u64])
@@ -23,41 +23,24 @@ fn share_out<R: Share>(rule: &R, claims: &[u64], total: u64, parts: &mut [u64])
     ensures parts { parts.new ≡ R.shares rule.now claims.now total }
     ensures adds { sum parts.new ≡ total }
 {
-    match rule.share(claims, total, parts) {
-        Ok(()) => {}
-        Err(_) => unreachable(),
-    }
-}
-
-fn credit(fen: u64) -> Grains
-    requires { fen ≤ 100000000 }
-    ensures { result.count ≡ pos (fen * 1000000) }
-{
-    Fen::from_count(fen as i64).grains().unwrap()
+    rule.share(claims, total, parts).unwrap();
 }
 
 impl<R: Share> Book<R> {
-    // The accounts as a compensation would leave them, with room for claims and parts.
-    fn compensated(
-        &self,
-        plant: u8,
-        fen: u64,
-        claims: &mut [u64],
-        parts: &mut [u64],
-    ) -> AccountTable
-        requires plant { plant_ok plant ≡ true }
+    // The accounts as a compensation would leave them.
+    fn compensated(&self, plant: Plant, fen: u64) -> AccountTable
         requires fen { fen ≤ 100000000 }
-        requires claims { length claims.old ≡ 24 }
-        requires parts { length parts.old ≡ 24 }
         requires some { any_account has_generated (ledger_of R.Share.shares self.now).accounts ≡ true }
-        ensures { result.rows ≡ accounts_compensated (R.Share.shares self.now.rule) plant fen (ledger_of R.Share.shares self.now).accounts }
+        ensures { result.rows ≡ accounts_compensated (R.Share.shares self.now.rule) plant.number fen (ledger_of R.Share.shares self.now).accounts }
     {
-        let n = self.accounts.claims(claims);
-        let room = &mut parts[0..n];
-        share_out(&self.rule, &claims[0..n], fen, room);
+        let claims = self.accounts.claims();
+        let mut parts = [0; PLANTS];
+        let parts = &mut parts[..claims.len()];
+        share_out(&self.rule, claims.as_slice(), fen, parts);
         let mut next = self.accounts;
-        next.debit(room);
-        next.move_side(plant, credit(fen));
+        next.debit(parts);
+        let credit = credit(fen);
+        next.change(plant, |account| account.move_side(credit));
         next
     }
 
@@ -66,11 +49,10 @@ impl<R: Share> Book<R> {
     pub fn compensate(&mut self, plant: u8, amount: Fen) -> Result<(), Refusal>
         ensures { Makes (ledger_of R.Share.shares self.old) (Call.Compensate plant amount) (ledger_of R.Share.shares self.new) (told result) }
     {
+        let plant = Plant::try_from(plant)?;
         let fen = self.may_compensate(plant, amount)?;
-        let mut claims = [0; PLANTS];
-        let mut parts = [0; PLANTS];
-        let next = self.compensated(plant, fen, &mut claims, &mut parts);
-        if any::<crate::condition::PastSideLimit>(next.as_slice()) {
+        let next = self.compensated(plant, fen);
+        if next.iter().any(Account::is_past_side_limit) {
             return Err(Refusal::SumPastLimit);
         }
         self.accounts = next;

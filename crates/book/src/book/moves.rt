@@ -6,10 +6,12 @@ ghost use Rattle.book.specs.Holds.{ledger_of};
 ghost use Rattle.book.specs.Ledgers.{opened};
 
 use super::Book;
-use super::checks::{reversed, transfer_fee};
-use crate::account::Reading;
+use super::checks::transfer_fee;
+use crate::account::{Reading, reversed};
 use crate::accounts::AccountTable;
 use crate::call::Call;
+use crate::order::Order;
+use crate::plant::Plant;
 use crate::refusal::Refusal;
 use crate::row::Row;
 use crate::table::ContractTable;
@@ -19,11 +21,14 @@ use std::alloc::{AllocError, Global};
 use units::{Energy, Fen, Grains, Price};
 
 impl<R: Share> Book<R> {
+    // Kept: class and rank are numbers in the calls, since a number that names none is declined; an enum would ask more of callers.
     pub fn enrol(&mut self, plant: u8, class: u8, approved: Price) -> Result<(), Refusal>
         ensures { Makes (ledger_of R.Share.shares self.old) (Call.Enrol plant class approved) (ledger_of R.Share.shares self.new) (told result) }
     {
+        let plant = Plant::try_from(plant)?;
         let class = self.may_enrol(plant, class, approved)?;
-        self.accounts.enrol(plant, class, approved);
+        self.accounts
+            .change(plant, |account| account.enrol(class, approved));
         Ok(())
     }
 
@@ -37,16 +42,9 @@ impl<R: Share> Book<R> {
     ) -> Result<(), Refusal>
         ensures { Makes (ledger_of R.Share.shares self.old) (Call.Enter number plant rank energy price) (ledger_of R.Share.shares self.new) (told result) }
     {
-        let rank = self.may_enter(number, plant, rank, energy, price)?;
-        self.contracts.insert(Row {
-            number,
-            plant,
-            contract: Contract {
-                rank,
-                energy,
-                price,
-            },
-        });
+        let plant = Plant::try_from(plant)?;
+        let row = self.may_enter(number, plant, rank, energy, price)?;
+        self.contracts.insert(row);
         Ok(())
     }
 
@@ -71,21 +69,26 @@ impl<R: Share> Book<R> {
     ) -> Result<(), Refusal>
         ensures { Makes (ledger_of R.Share.shares self.old) (Call.Transfer new old receiver energy price) (ledger_of R.Share.shares self.new) (told result) }
     {
-        let row = self.may_transfer(new, old, receiver, energy, price)?;
-        let paid = transfer_fee(energy, row.contract.price, price);
-        let rest = Energy::from_kwh(row.contract.energy.kwh() - energy.kwh());
+        let order = Order::within(new, old, receiver, energy, price)?;
+        let row = self.may_transfer(order)?;
+        let giver = Plant::holding(row);
+        let contract = row.contract;
+        let paid = transfer_fee(order.energy, contract.price, order.price);
+        let back = reversed(paid);
+        let rest = Energy::from_kwh(contract.energy.kwh() - order.energy.kwh());
         self.contracts.set_energy(row.number, rest);
         self.contracts.insert(Row {
-            number: new,
-            plant: receiver,
+            number: order.new,
+            plant: order.receiver.number,
             contract: Contract {
-                rank: row.contract.rank,
-                energy,
-                price: row.contract.price,
+                energy: order.energy,
+                ..contract
             },
         });
-        self.accounts.move_side(row.plant, paid);
-        self.accounts.move_side(receiver, reversed(paid));
+        self.accounts
+            .change(giver, |account| account.move_side(paid));
+        self.accounts
+            .change(order.receiver, |account| account.move_side(back));
         Ok(())
     }
 
@@ -98,14 +101,14 @@ impl<R: Share> Book<R> {
     ) -> Result<(), Refusal>
         ensures { Makes (ledger_of R.Share.shares self.old) (Call.Meter plant metered commissioning) (ledger_of R.Share.shares self.new) (told result) }
     {
+        let plant = Plant::try_from(plant)?;
         self.may_meter(plant, metered, commissioning)?;
-        self.accounts.meter(
-            plant,
-            Reading {
-                metered,
-                commissioning,
-            },
-        );
+        let reading = Reading {
+            metered,
+            commissioning,
+        };
+        self.accounts
+            .change(plant, |account| account.meter(reading));
         Ok(())
     }
 
@@ -113,18 +116,21 @@ impl<R: Share> Book<R> {
     pub fn issue(&mut self, plant: u8) -> Result<Fen, Refusal>
         ensures { Makes (ledger_of R.Share.shares self.old) (Call.Issue plant) (ledger_of R.Share.shares self.new) (told_paid result) }
     {
+        let plant = Plant::try_from(plant)?;
         self.may_issue(plant)?;
         let net = self.net(plant);
-        Ok(self.accounts.issue(plant, net))
+        Ok(self.accounts.change(plant, |account| account.issue(net)))
     }
 
     // Adds the net now less the net at issue to the carry, and freezes the plant.
     pub fn close(&mut self, plant: u8) -> Result<(), Refusal>
         ensures { Makes (ledger_of R.Share.shares self.old) (Call.Close plant) (ledger_of R.Share.shares self.new) (told result) }
     {
+        let plant = Plant::try_from(plant)?;
         let at_issue = self.may_close(plant)?;
         let net = self.net(plant);
-        self.accounts.close(plant, net, at_issue);
+        self.accounts
+            .change(plant, |account| account.close(net, at_issue));
         Ok(())
     }
 
@@ -174,10 +180,11 @@ impl<R: Share + Drop> Book<R> {
 }
 
 // Whether a book can be opened with these figures.
+#[tactic(auto, unfolding(crate::specs::Calls::open_within))]
 pub fn open_within(month: u8, residential: Price) -> bool
     ensures { result ≡ open_within month residential }
 {
-    1 <= month && month <= 12 && residential.within_limit()
+    (1..=12).contains(&month) && residential.within_limit()
 }
 
 fn next_month(month: u8) -> u8

@@ -1,9 +1,10 @@
 // What the contract table answers and does.
-ghost use Rattle.std.specs.Prelude.{◌≡◌, ◌<◌, ◌≤◌, true, [], length, take, is_some, IfOk, vec_len, nat_le};
+ghost use Rattle.std.specs.Prelude.{◌≡◌, ◌<◌, ◌≤◌, true, [], length, is_some, IfOk, nat_le};
 ghost use Rattle.book.specs.Rows.{rising, row_of, place_of, with_row, with_energy, plant_sum, contracts_of};
 
 use super::ContractTable;
 use crate::row::Row;
+use arrayvec::ArrayVec;
 use market::{Contract, MOST_CONTRACTS};
 use std::alloc::{AllocError, Global};
 use units::Energy;
@@ -24,26 +25,16 @@ impl ContractTable {
 
     // How many contracts come before a number.
     fn place(&self, number: u32) -> usize
+        requires { rising self.now.rows.items ≡ true }
         ensures { result ≡ place_of number self.now.rows.items }
     {
-        let rows = self.rows.as_slice();
-        let mut i = 0;
-        while i < rows.len() && rows[i].number < number {
-            i += 1;
-        }
-        i
+        self.rows.partition_point(|row| row.number < number)
     }
 
     pub(crate) fn find(&self, number: u32) -> Option<Row>
         ensures { result ≡ row_of number self.now.rows.items }
     {
-        let rows = self.rows.as_slice();
-        for row in rows {
-            if row.number == number {
-                return Some(*row);
-            }
-        }
-        None
+        self.rows.iter().find(|row| row.number == number).copied()
     }
 
     // The energy of one plant's contracts.
@@ -51,19 +42,39 @@ impl ContractTable {
         requires { plant_sum plant self.now.rows.items ≤ 3000000000 }
         ensures { result.kwh ≡ plant_sum plant self.now.rows.items }
     {
-        let rows = self.rows.as_slice();
-        let mut sum = 0;
-        for row in rows {
+        let kwh = self
+            .rows
+            .iter()
+            .filter(|row| row.plant == plant)
+            .map(|row| row.contract.energy.kwh())
+            .sum();
+        Energy::from_kwh(kwh)
+    }
+
+    // How many contracts a plant has.
+    pub(crate) fn count(&self, plant: u8) -> usize
+        ensures { result ≡ length (contracts_of plant self.now.rows.items) }
+    {
+        self.rows.iter().filter(|row| row.plant == plant).count()
+    }
+
+    // A plant's contracts, in rising number.
+    pub(crate) fn contracts_of(&self, plant: u8) -> ArrayVec<Contract, MOST_CONTRACTS>
+        ensures { result.items ≡ contracts_of plant self.now.rows.items }
+    {
+        let mut contracts = ArrayVec::new();
+        for row in &self.rows {
             if row.plant == plant {
-                sum += row.contract.energy.kwh();
+                contracts.push(row.contract);
             }
         }
-        Energy::from_kwh(sum)
+        contracts
     }
 
     // Cannot fail: room for 256 was reserved when the table was made.
     pub(crate) fn insert(&mut self, row: Row)
-        requires { length self.old.rows.items < 256 }
+        requires room { length self.old.rows.items < 256 }
+        requires rises { rising self.old.rows.items ≡ true }
         ensures { self.new.rows.items ≡ with_row row self.old.rows.items }
     {
         let i = self.place(row.number);
@@ -84,23 +95,5 @@ impl ContractTable {
         ensures { self.new.rows.items ≡ [] }
     {
         self.rows.clear();
-    }
-
-    // Puts a plant's contracts at the front of a slice, in rising number, and answers how many there are.
-    pub(crate) fn gather(&self, plant: u8, out: &mut [Contract]) -> usize
-        requires { length self.now.rows.items ≤ length out.old }
-        ensures count { result ≡ length (contracts_of plant self.now.rows.items) }
-        ensures bound { result ≤ length self.now.rows.items }
-        ensures front { take result out.new ≡ contracts_of plant self.now.rows.items }
-    {
-        let rows = self.rows.as_slice();
-        let mut n = 0;
-        for row in rows {
-            if row.plant == plant {
-                out[n] = row.contract;
-                n += 1;
-            }
-        }
-        n
     }
 }

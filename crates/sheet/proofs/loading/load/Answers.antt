@@ -1,10 +1,9 @@
-use Rattle.std.proofs.Common.{◌≡◌, Some, sym, refl, ap, ◌∙◌}
+use Rattle.std.proofs.Common.{rules, sym, refl, ap, ◌∙◌}
 use Rattle.sharing.specs.Declining.{placed}
-use Rattle.book.specs.Calls.{declined_by, open_declined}
 use Rattle.book.specs.Holds.{ledger_of}
 use Rattle.book.specs.Ledgers.{opened}
 use Rattle.sheet.specs.Loads.{book_fault}
-use Rattle.sheet.proofs.Making.{fault_of_lem, handed_on, no_fault, was_some}
+use Rattle.sheet.proofs.Making.{Refuses, accepted_none, handed_on, refused_some}
 use Rattle.sheet.proofs.Whole.{all_bytes, header_is, header_stops, loaded}
 use Rattle.sheet.proofs.Writing.{unambiguous}
 use Rattle.sheet.proofs.loading.load.Goals as goal
@@ -18,22 +17,21 @@ returns-in_err-header g c =
       unambiguous = unambiguous;
     }
 
-pub returns-in_err-opened : goal.returns-in_err-opened
-returns-in_err-opened g c =
+pub returns-in_err-map_err : goal.returns-in_err-map_err
+returns-in_err-map_err g c =
     let shares = g.R.Share.shares in
     let rule = c.args.rule in
     let bytes = c.args.sheet.now in
     let header = c.in_ok-header.header in
     let read = c.in_ok-header.ensures in
     let before = ledger_of shares c.args.book.now in
-    let e = c.in_err-opened.field-0.0 in
-    let r = c.from_residual-in_err-opened.result in
-    let why = open_declined header.month header.residential in
-    let told : book_fault 0 0 why ≡ Some e = ap (book_fault 0 0) (sym c.open.ensures.answer) ∙ was_some (book_fault 0 0 (declined_by c.open.result)) e tt c.in_err-opened.ensures in
-    let known = fault_of_lem 0 0 why e told in
-    let same = c.open.ensures.after ∙ ap (λ w. placed w (opened header.month header.residential (shares rule)) before) known.1 in
+    let e = c.in_err-map_err.field-0.0 in
+    let r = c.from_residual-in_err-map_err.result in
+    let told : Refuses c.open.result 0 0 e = search rules in
+    let known = refused_some c.open.result 0 0 e told in
+    let same = c.open.ensures.after ∙ ap (λ w. placed w (opened header.month header.residential (shares rule)) before) (sym c.open.ensures.answer ∙ known.1) in
     record {
-      loaded = header_stops (shares rule) bytes before (ledger_of shares c.open.new.self) e r (header_is bytes header.month header.residential read.0 read.1 read.3 read.4 ∙ told) (handed_on r e c.from_residual-in_err-opened.ensures.1) same;
+      loaded = header_stops (shares rule) bytes before (ledger_of shares c.open.new.self) e r (header_is bytes header.month header.residential read.0 read.1 read.3 read.4 ∙ ap (book_fault 0 0) (sym c.open.ensures.answer) ∙ known.2) (handed_on r e c.from_residual-in_err-map_err.ensures.1) same;
       unambiguous = unambiguous;
     }
 
@@ -44,7 +42,7 @@ returns g c =
     let bytes = c.args.sheet.now in
     let header = c.in_ok-header.header in
     let read = c.in_ok-header.ensures in
-    let opens = sym c.open.ensures.answer ∙ no_fault 0 0 (declined_by c.open.result) c.in_ok-opened.ensures in
+    let opens = sym c.open.ensures.answer ∙ accepted_none c.open.result (sym c.in_ok-map_err.ensures.variant) in
     record {
       loaded = loaded (shares rule) (g.met.R.Share.fair rule) bytes header.sections header.month header.residential (ledger_of shares c.args.book.now) (ledger_of shares c.open.new.self) (ledger_of shares c.make_sections.new.book) c.make_sections.result (all_bytes bytes c.type_inv.sheet) read.0 read.1 read.2 read.3 read.4 opens c.open.ensures.after c.make_sections.ensures.fault c.make_sections.ensures.left;
       unambiguous = unambiguous;

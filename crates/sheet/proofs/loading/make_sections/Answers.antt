@@ -4,7 +4,7 @@ use Rattle.sharing.proofs.Granted.{was_none}
 use Rattle.book.specs.Holds.{ledger_of}
 use Rattle.sheet.specs.Formats.{calls_of, contents_from, stretches_of}
 use Rattle.sheet.specs.Loads.{item_fault}
-use Rattle.sheet.proofs.Sequence.{fault_of, faulty_section, left_over_lem, left_of, none_left, over, section_made, section_stopped, sound_section}
+use Rattle.sheet.proofs.Sequence.{fault_of, faulty_section, left_over_lem, left_of, over, section_made, section_stopped, sound_section}
 use Rattle.sheet.proofs.Making.{handed_on, was_some}
 use Rattle.sheet.proofs.loading.make_sections.Goals as goal
 
@@ -59,26 +59,10 @@ loop-done-preserved g c =
     let inv = c.loop-done.invariant in
     (sym step.0 ∙ ap (fault_of here) (sym is) ∙ inv.0, sym step.1 ∙ ap (left_of here) (sym is) ∙ inv.1)
 
-pub returns-then-offset-sheet : goal.returns-then-offset-sheet
-returns-then-offset-sheet g c =
+pub returns-then-offset-sheet-clause-fault : goal.returns-then-offset-sheet-clause-fault
+returns-then-offset-sheet-clause-fault g c =
     let here = ledger_of g.R.Share.shares c.loop-done.book in
     let offset = c.loop-done.offset in
     let bytes = c.args.sheet.now in
     let end = over here c.args.count c.loop-done._done offset (drop offset bytes) c.loop-done-test.false in
-    let inv = c.loop-done.invariant in
-    record {
-      fault = ap Err c.sheet_fault.ensures ∙ ap (λ w. answered w tt) (sym (left_over_lem offset bytes c.if-offset-sheet.true) ∙ sym end.0 ∙ inv.0);
-      left = sym end.1 ∙ inv.1;
-    }
-
-pub returns : goal.returns
-returns g c =
-    let here = ledger_of g.R.Share.shares c.loop-done.book in
-    let offset = c.loop-done.offset in
-    let bytes = c.args.sheet.now in
-    let end = over here c.args.count c.loop-done._done offset (drop offset bytes) c.loop-done-test.false in
-    let inv = c.loop-done.invariant in
-    record {
-      fault = ap (λ w. answered w tt) (sym (none_left offset bytes c.if-offset-sheet.false) ∙ sym end.0 ∙ inv.0);
-      left = sym end.1 ∙ inv.1;
-    }
+    ap Err c.of_sheet.ensures ∙ ap (λ w. answered w tt) (sym (left_over_lem offset bytes c.if-offset-sheet.true) ∙ sym end ∙ c.loop-done.invariant.0)

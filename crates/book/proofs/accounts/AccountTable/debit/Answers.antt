@@ -1,69 +1,23 @@
-use Rattle.std.proofs.Common.{◌+◌, ◌<◌, ◌≤◌, ◌++◌, length, get_or, take, drop, nat_abs, is_some, sym, ap, ◌∙◌, arith}
-use Rattle.std.proofs.lemmas.Int.{ints}
-use Rattle.std.proofs.lemmas.List.{take_all, at_drop_all, drop-set-lt, append-nil}
-use Rattle.book.specs.declared.accounts.AccountTable.{AccountTable}
-use Rattle.book.specs.Accounts.{debited, blank, side_moved}
-use Rattle.book.proofs.AccountLoops.{claim_hit, claim_miss, debit_read, debit_rest, debit_hit, debit_miss}
+use Rattle.std.proofs.Common.{◌≡◌, ◌<◌, length, get_or, neg_ℤ, nat_abs, sym, ap, ◌∙◌, arith}
+use Rattle.std.proofs.lemmas.Grind.{common_steps}
+use Rattle.book.specs.Accounts.{blank, side_moved}
+use Rattle.book.proofs.AccountLoops.{unpaid, part_left, pays, skips}
 use Rattle.book.proofs.accounts.AccountTable.debit.Goals as goal
-use Rattle.book.proofs.accounts.AccountTable.debit.Goals.{then-is_some, else-is_some}
+use Rattle.book.proofs.accounts.AccountTable.debit.Goals.{then-is_some+in-Some, then-is_some+in_default, else-is_some}
 
-pub bounds-parts-n : goal.bounds-parts-n
-bounds-parts-n c =
-    let xs = c.args.self.now.rows in
-    let ys = c.loop-i.self.rows in
-    let hx : c.loop-i.i < length xs = omega (arith, c.args.self.now.all, c.loop-i-test.true) in
-    let hy : c.loop-i.i < length ys = omega (arith, c.loop-i.self.all, c.loop-i-test.true) in
-    let read = debit_read xs ys c.args.parts.now c.loop-i.i c.loop-i.n blank hx hy c.loop-i.invariant.0 in
-    let hit = ap length (claim_hit xs c.loop-i.i blank hx (ap (λ a. is_some a.enrolment) (sym read) ∙ sym c.if-is_some.ensures)) in
-    omega (arith, hit, c.loop-i.invariant.1, c.requires.enough)
+pub move_side-requires-clause-side : goal.move_side-requires-clause-side
+move_side-requires-clause-side c =
+    let v = c.loop-account in
+    let same = unpaid c.args.self.now.rows c.args.parts.now v.account-index v.account-items v.parts.rest.now blank v.invariant (omega (arith, c.args.self.now.all, c.loop-account-test.true)) in
+    omega (arith, ap (λ a. nat_abs a.side.count) same, c.requires.bounded v.account-index)
 
-pub move_side-requires : goal.move_side-requires
-move_side-requires c =
+pub loop-account-preserved : goal.loop-account-preserved
+loop-account-preserved c =
+    let v = c.loop-account in
     let xs = c.args.self.now.rows in
-    let ys = c.loop-i.self.rows in
-    let hx : c.loop-i.i < length xs = omega (arith, c.args.self.now.all, c.loop-i-test.true) in
-    let hy : c.loop-i.i < length ys = omega (arith, c.loop-i.self.all, c.loop-i-test.true) in
-    let read = debit_read xs ys c.args.parts.now c.loop-i.i c.loop-i.n blank hx hy c.loop-i.invariant.0 in
-    record { side = omega (arith, ap (λ a. nat_abs a.side.count) read, c.requires.bounded c.loop-i.i); amount = omega (arith, ints, c.debit.ensures, c.requires.small c.loop-i.n) }
-
-pub loop-i-preserved : goal.loop-i-preserved
-loop-i-preserved c =
-    let xs = c.args.self.now.rows in
-    let ys = c.loop-i.self.rows in
-    let ps = c.args.parts.now in
-    let i = c.loop-i.i in
-    let n = c.loop-i.n in
-    let v = c.loop-i.invariant in
-    let hx : i < length xs = omega (arith, c.args.self.now.all, c.loop-i-test.true) in
-    let hy : i < length ys = omega (arith, c.loop-i.self.all, c.loop-i-test.true) in
-    let read = debit_read xs ys ps i n blank hx hy v.0 in
-    let rest = debit_rest xs ys ps i n blank hx hy v.0 in
+    let here : v.account-index < length xs = omega (arith, c.args.self.now.all, c.loop-account-test.true) in
     elim c.if-is_some.branch [
-      | then-is_some w ↦
-          let on = sym w.if-is_some.ensures in
-          let rows = ap (λ (s : AccountTable). s.rows) w.self-is in
-          let hit = ap length (claim_hit xs i blank hx (ap (λ a. is_some a.enrolment) (sym read) ∙ on)) in (
-            ap (drop (i + 1)) rows ∙ drop-set-lt (i + 1) ys i w.move_side.new.self (omega arith) ∙ rest,
-            omega (arith, hit, v.1, w.n-is),
-            ap (λ k. take (i + 1) c.if-is_some.self.rows ++ debited (drop (i + 1) xs) (drop k ps)) w.n-is ∙ ap (λ l. take (i + 1) l ++ debited (drop (i + 1) xs) (drop (n + 1) ps)) rows ∙ debit_hit xs ys ps i n blank hx hy v.0 w.move_side.new.self _ on (w.move_side.ensures ∙ ap (λ z. side_moved z (get_or ys i blank)) w.debit.ensures) v.2,
-          )
-      | else-is_some w ↦
-          let off = sym w.if-is_some.ensures in
-          let rows = ap (λ (s : AccountTable). s.rows) w.self-is in
-          let miss = ap length (claim_miss xs i blank hx (ap (λ a. is_some a.enrolment) (sym read) ∙ off)) in (
-            ap (drop (i + 1)) rows ∙ rest,
-            omega (arith, miss, v.1, w.n-is),
-            ap (λ k. take (i + 1) c.if-is_some.self.rows ++ debited (drop (i + 1) xs) (drop k ps)) w.n-is ∙ ap (λ l. take (i + 1) l ++ debited (drop (i + 1) xs) (drop n ps)) rows ∙ debit_miss xs ys ps i n blank hx hy v.0 _ off v.2,
-          )
+      | then-is_some+in-Some w ↦ rw (w.parts-is, w.account-items-is) (pays xs c.args.parts.now v.account-index v.account-items v.parts.rest.now blank v.invariant here w.in-Some.part.now _ _ w.in-Some.ensures.steps (sym w.if-is_some.ensures) (w.move_side.ensures ∙ ap (λ z. side_moved z (get_or v.account-items v.account-index blank)) (w.reversed.ensures ∙ ap neg_ℤ w.credit.ensures)))
+      | then-is_some+in_default w ↦ let out : length v.parts.rest.now ≡ 0 = grind (arith, common_steps) in absurd (part_left xs c.args.parts.now v.account-index v.account-items v.parts.rest.now blank v.invariant here (sym w.if-is_some.ensures) out)
+      | else-is_some w ↦ rw (w.parts-is, w.account-items-is) (skips xs c.args.parts.now v.account-index v.account-items v.parts.rest.now blank v.invariant here (sym w.if-is_some.ensures))
     ]
-
-pub returns : goal.returns
-returns c =
-    let xs = c.args.self.now.rows in
-    let ys = c.loop-i.self.rows in
-    let ps = c.args.parts.now in
-    let i = c.loop-i.i in
-    let pastx : length xs ≤ i = omega (arith, c.args.self.now.all, c.loop-i-test.false) in
-    let pasty : length ys ≤ i = omega (arith, c.loop-i.self.all, c.loop-i-test.false) in
-    let end = at_drop_all (λ l. debited l (drop c.loop-i.n ps)) xs i pastx in
-    sym (take_all i ys pasty) ∙ sym (append-nil (take i ys)) ∙ ap (λ r. take i ys ++ r) (sym end) ∙ c.loop-i.invariant.2

@@ -1,18 +1,15 @@
 use Rattle.std.proofs.Common.{sym, refl}
-use Rattle.std.proofs.lemmas.Bool.{not-false}
 use Rattle.book.specs.declared.call.Call.TheVariants.{Amend}
-use Rattle.book.specs.Calls.{conditions, accepted}
+use Rattle.book.specs.Calls.{accepted}
 use Rattle.book.specs.Holds.{ledger_of}
 use Rattle.book.proofs.Kept.{amend_sound}
 use Rattle.book.proofs.Props.{sound_of, kept}
-use Rattle.book.proofs.Tables.{passed}
 use Rattle.book.proofs.book.Book.amend.Goals as goal
 
-pub set_energy-requires : goal.set_energy-requires
-set_energy-requires g c =
+pub set_energy-requires-clause-rises : goal.set_energy-requires-clause-rises
+set_energy-requires-clause-rises g c =
     let f = ledger_of g.R.Share.shares c.args.self.now in
-    let t = passed (conditions f (Amend c.args.number c.args.energy)) (sym c.in_ok-may_amend.ensures) in
-    record { held = not-false _ t.1.0; rises = (sound_of f c.args.self.now.sound).rises }
+    (sound_of f c.args.self.now.sound).rises
 
 pub invariant_of-self : goal.invariant_of-self
 invariant_of-self g c =

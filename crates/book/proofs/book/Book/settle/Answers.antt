@@ -1,4 +1,4 @@
-use Rattle.std.proofs.Common.{◌≡◌, List, length, None, Ok, sym, refl, ap, ◌∙◌, subst}
+use Rattle.std.proofs.Common.{◌≡◌, List, length, None, Ok, sym, ap, ◌∙◌, subst}
 use Rattle.sharing.specs.Declining.{answered, placed}
 use Rattle.units.specs.declared.energy.Energy.{Energy}
 use Rattle.market.specs.declared.figures.Settlement.{Settlement}
@@ -8,32 +8,25 @@ use Rattle.book.specs.declared.refusal.Refusal.{Refusal}
 use Rattle.book.specs.Calls.{settle_declined}
 use Rattle.book.specs.Holds.{ledger_of}
 use Rattle.book.specs.Ledgers.{plant_in}
-use Rattle.book.proofs.Figured.{settle_facts}
+use Rattle.book.proofs.Figured.{settles_for}
 use Rattle.book.proofs.PlantFacts.{plant_settles}
 use Rattle.book.proofs.Props.{sound_of}
 use Rattle.book.proofs.Tables.{plant_parts}
 use Rattle.book.proofs.book.Book.settle.Goals as goal
 
-pub settle_in_room-requires : goal.settle_in_room-requires
-settle_in_room-requires g c =
-    let f = ledger_of g.R.Share.shares c.args.self.now in
-    let known = settle_facts f c.args.plant (length c.args.energies.now) (length c.args.amounts.now) (sym c.in_ok-may_settle.ensures.answer) in
-    record { plant = known.0; contracts = refl; energies = known.1; amounts = known.2 }
-
 pub returns : goal.returns
 returns g c =
     let b = c.args.self.now in
     let f = ledger_of g.R.Share.shares b in
-    let p = c.args.plant in
+    let p = c.in_ok-plant.plant.number in
     let es = c.args.energies.now in
     let old = c.args.amounts.now in
-    let none : settle_declined f p (length es) (length old) ≡ None = sym c.in_ok-may_settle.ensures.answer in
-    let known = settle_facts f p (length es) (length old) none in
-    let told = c.settle_in_room.ensures in
-    let kept = plant_settles f p (plant_parts p known.0).1 (g.met.R.Share.fair b.rule) (sound_of f b.sound) in
-    record {
+    let none : settle_declined f p (length es) (length old) ≡ None = sym c.in_ok-may_settle.ensures in
+    let told = c.settlement.ensures in
+    let kept = plant_settles f p (plant_parts p c.in_ok-plant.plant.known).1 (g.met.R.Share.fair b.rule) (sound_of f b.sound) in
+    settles_for c.in_ok-plant.ensures (record {
       answer = ap Ok told.answer ∙ ap (λ w. answered {E = Refusal} w (settlement_of (plant_in f p))) (sym none);
       energies = told.energies ∙ ap (λ w. placed w (settled_energies (plant_in f p)) es) (sym none);
       amounts = told.amounts ∙ ap (λ w. placed w (settled_amounts (plant_in f p)) old) (sym none);
-      settles = subst (λ (s : Settlement). Settles (plant_in f p) c.settle_in_room.new.energies s) (sym told.answer) (subst (λ (l : List Energy). Settles (plant_in f p) l (settlement_of (plant_in f p))) (sym told.energies) kept);
-    }
+      settles = subst (λ (s : Settlement). Settles (plant_in f p) c.settlement.new.energies s) (sym told.answer) (subst (λ (l : List Energy). Settles (plant_in f p) l (settlement_of (plant_in f p))) (sym told.energies) kept);
+    })

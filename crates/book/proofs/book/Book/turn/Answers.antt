@@ -6,10 +6,6 @@ use Rattle.book.proofs.Kept.{turn_sound}
 use Rattle.book.proofs.Props.{sound_of, kept}
 use Rattle.book.proofs.book.Book.turn.Goals as goal
 
-pub next_month-self-requires : goal.next_month-self-requires
-next_month-self-requires g c =
-    let f = ledger_of g.R.Share.shares c.args.self.now in (sound_of f c.args.self.now.sound).last
-
 pub invariant_of-self : goal.invariant_of-self
 invariant_of-self g c =
     let b = c.args.self.now in

@@ -6,11 +6,8 @@ pub insert-requires : goal.insert-requires
 insert-requires c =
     let p = place_within c.args.row.number c.args.self.now.rows.items in omega (arith, p, c.place-i.ensures, c.args.self.now.rows.ok.0)
 
-pub invariant_of-self : goal.invariant_of-self
-invariant_of-self c = record { room = omega (arith, c.args.self.now.room, c.insert.ensures.capacity) }
-
 pub returns : goal.returns
 returns c =
     let t = c.args.self.now in
     inserted_held c.args.row t.rows.items c.insert.new.self.items c.place-i.result _ c.insert.ensures.items
-    (c.insert.ensures.succeeds (omega (arith, t.room, c.requires, t.rows.ok.0))) c.place-i.ensures
+    (c.insert.ensures.succeeds (omega (arith, t.room, c.requires.room, t.rows.ok.0))) c.place-i.ensures

@@ -1,14 +1,13 @@
 -- Loops over the contract table, and the places that it finds. Assumes nothing.
-use Rattle.std.proofs.Common.{◌≡◌, ℕ, zero, suc, ◌+◌, ◌<◌, ◌≤◌, Bool, true, false, cond, eqb, ltb, List, [], ◌∷◌, map, length, get_or, set, is_some, Some, None, sym, refl, ap, ◌∙◌, subst, ⊎_elim, arith}
+use Rattle.std.proofs.Common.{◌≡◌, ℕ, zero, suc, ◌+◌, ◌<◌, ◌≤◌, Bool, true, false, cond, eqb, ltb, List, [], ◌∷◌, map, length, get_or, sym, refl, ap, ◌∙◌, arith}
 use Rattle.std.specs.List.{insert, filter, sum_by, prefix_len}
 use Rattle.std.specs.List.Sorted.{IsPartitionPoint, IsPartitionedBy}
 use Rattle.std.proofs.lemmas.List.Sums.{prefix_len_is, sum_by-cons}
-use Rattle.std.proofs.lemmas.Bool.{true≢false, cond-true, cond-false, eq-eqb, ne_eqb, lt-ltb, ltb-true, le-ltb, and_parts, and_from, cases_order}
-use Rattle.units.specs.declared.energy.Energy.{Energy}
+use Rattle.std.proofs.lemmas.Bool.{cond-true, lt-ltb, ltb-true, and_parts}
 use Rattle.market.specs.declared.kinds.Rank.TheVariants.{InProvinceMarket}
 use Rattle.book.specs.declared.row.Row.{Row}
-use Rattle.book.proofs.RowFacts.{above_head, above_less, same_above}
-use Rattle.book.specs.Rows.{all_above, rising, row_of, place_of, with_row, with_energy, at_energy, plant_sum, contracts_of}
+use Rattle.book.proofs.RowFacts.{above_head}
+use Rattle.book.specs.Rows.{all_above, rising, place_of, with_row, plant_sum, contracts_of}
 
 -- ---- the place of a number
 
@@ -54,59 +53,6 @@ place_within n [] = omega arith
 place_within n (c ∷ cs) =
     let ih = place_within n cs in
     elim (ltb c.number n) as (λ b. cond b (suc (place_of n cs)) 0 ≤ suc (length cs)) [ true ↦ omega arith | false ↦ omega arith ]
-
-none_from_above : (n : ℕ) (xs : List Row) → all_above n xs ≡ true → row_of n xs ≡ None
-none_from_above n [] h = refl
-none_from_above n (c ∷ cs) h =
-    let p = above_head n c cs h in
-    cond-false _ _ _ (ne_eqb c.number n (λ e. omega arith)) ∙ none_from_above n cs p.1
-
--- where number n stands in a rising list
-pub record Standing (n : ℕ) (e : Energy) (d : Row) (xs : List Row) : Type 0 where
-  pub within : place_of n xs < length xs
-  pub changed : set xs (place_of n xs) (at_energy e (get_or xs (place_of n xs) d)) ≡ with_energy n e xs
-  pub named : row_of n xs ≡ Some (get_or xs (place_of n xs) d)
-
-standing_next : (n : ℕ) (e : Energy) (d c : Row) (cs : List Row) → c.number < n → Standing n e d cs → Standing n e d (c ∷ cs)
-standing_next n e d c cs l s =
-    let t : ltb c.number n ≡ true = lt-ltb _ _ l in
-    let u : eqb c.number n ≡ false = ne_eqb _ _ (λ q. omega arith) in
-    record {
-      within = rw t (omega (arith, s.within));
-      changed = rw (t, u) (ap (λ l. c ∷ l) s.changed);
-      named = rw (t, u) s.named;
-    }
-
-standing_here : (n : ℕ) (e : Energy) (d c : Row) (cs : List Row) → c.number ≡ n → all_above n cs ≡ true → Standing n e d (c ∷ cs)
-standing_here n e d c cs q a =
-    let t : ltb c.number n ≡ false = le-ltb _ _ (omega arith) in
-    let u : eqb c.number n ≡ true = eq-eqb _ _ q in
-    record {
-      within = rw t (omega arith);
-      changed = rw (t, u) (ap (λ l. at_energy e c ∷ l) (sym (same_above n e cs a)));
-      named = rw (t, u) refl;
-    }
-
-pub standing : (n : ℕ) (e : Energy) (d : Row) (xs : List Row) → rising xs ≡ true → is_some (row_of n xs) ≡ true → Standing n e d xs
-standing n e d [] r f = absurd (true≢false (sym f))
-standing n e d (c ∷ cs) r f =
-    let p = and_parts _ _ r in
-    ⊎_elim
-    (λ q. standing_here n e d c cs q (subst (λ m. all_above m cs ≡ true) q p.0))
-    (⊎_elim
-    (λ l. let u = cond-false _ (Some c) (row_of n cs) (ne_eqb c.number n (λ q. omega arith)) in
-    standing_next n e d c cs l (standing n e d cs p.1 (sym (ap is_some u) ∙ f)))
-    (λ l. let none = none_from_above n (c ∷ cs) (and_from _ _ (lt-ltb _ _ l) (above_less _ _ cs l p.0)) in
-    absurd (true≢false (sym f ∙ ap is_some none))))
-    (cases_order c.number n)
-
--- what the code has at the place i that it found, with the contract x that it read there
-module _ (n : ℕ) (e : Energy) (xs : List Row) (r : rising xs ≡ true) (f : is_some (row_of n xs) ≡ true) (i : ℕ) (p : i ≡ place_of n xs) where
-  pub energy_within : i < length xs
-  energy_within = let w = (standing n e blank_row xs r f).within in omega (arith, w)
-
-  pub energy_set : (x : Row) → x ≡ get_or xs i x → set xs i (at_energy e x) ≡ with_energy n e xs
-  energy_set x q = ap (λ y. set xs i (at_energy e y)) q ∙ ap (λ j. set xs j (at_energy e (get_or xs j x))) p ∙ (standing n e x xs r f).changed
 
 -- ---- a plant's contracts
 

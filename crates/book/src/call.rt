@@ -2,6 +2,7 @@
 use crate::refusal::Refusal;
 use units::{Energy, Fen, Price};
 
+// Kept: class and rank are numbers, as in the calls of a book, which decline a number that names none.
 #[derive(Clone, Copy)]
 pub enum Call {
     // Plant, class, approved price.

@@ -37,9 +37,12 @@ impl Refusal {
     {
         self as u8
     }
+}
 
-    fn meaning(self) -> &'static str {
-        match self {
+// The number, and what it means.
+impl fmt::Display for Refusal {
+    fn fmt<W: fmt::Write>(&self, f: &mut fmt::Formatter<W>) -> fmt::Result {
+        let meaning = match self {
             Refusal::PastLimit => "a figure is outside its limits, or nothing is transferred",
             Refusal::NotEnrolled => "the plant is not enrolled",
             Refusal::NoContract => "the contract is not in the book",
@@ -59,14 +62,8 @@ impl Refusal {
                 "a plant is not yet metered, issued or closed, or no energy was metered"
             }
             Refusal::SliceLength => "a slice has not the length that is asked for",
-        }
-    }
-}
-
-// The number, and what it means.
-impl fmt::Display for Refusal {
-    fn fmt<W: fmt::Write>(&self, f: &mut fmt::Formatter<W>) -> fmt::Result {
-        write!(f, "{}: {}", self.number(), self.meaning())
+        };
+        write!(f, "{}: {meaning}", self.number())
     }
 }
 

@@ -1,5 +1,9 @@
 // One contract as it stands in the book.
+ghost use Rattle.std.specs.Prelude.{◌≡◌};
+ghost use Rattle.book.specs.Rows.{at_energy};
+
 use market::Contract;
+use units::Energy;
 
 #[derive(Clone, Copy)]
 pub struct Row {
@@ -7,4 +11,13 @@ pub struct Row {
     // The plant that holds the contract.
     pub plant: u8,
     pub contract: Contract,
+}
+
+impl Row {
+    // Gives the contract another energy.
+    pub(crate) fn set_energy(&mut self, energy: Energy)
+        ensures { self.new ≡ at_energy energy self.old }
+    {
+        self.contract.energy = energy;
+    }
 }

@@ -65,9 +65,21 @@ impl<'a> Words<'a> {
     pub fn call(&self) -> anyhow::Result<Option<Call>> {
         let call = match self.name() {
             "enrol" => Call::Enrol(self.figure(1)?, self.figure(2)?, self.price(3)?),
-            "enter" => self.entry()?,
+            "enter" => Call::Enter(
+                self.figure(1)?,
+                self.figure(2)?,
+                self.figure(3)?,
+                self.energy(4)?,
+                self.price(5)?,
+            ),
             "amend" => Call::Amend(self.figure(1)?, self.energy(2)?),
-            "transfer" => self.transfer()?,
+            "transfer" => Call::Transfer(
+                self.figure(1)?,
+                self.figure(2)?,
+                self.figure(3)?,
+                self.energy(4)?,
+                self.price(5)?,
+            ),
             "meter" => Call::Meter(self.figure(1)?, self.energy(2)?, self.energy(3)?),
             "compensate" => Call::Compensate(self.figure(1)?, self.fen(2)?),
             "issue" => Call::Issue(self.figure(1)?),
@@ -76,26 +88,5 @@ impl<'a> Words<'a> {
             _ => return Ok(None),
         };
         Ok(Some(call))
-    }
-
-    // Kept: entry and transfer make calls whose figures have other types, so neither can be the other.
-    fn entry(&self) -> anyhow::Result<Call> {
-        Ok(Call::Enter(
-            self.figure(1)?,
-            self.figure(2)?,
-            self.figure(3)?,
-            self.energy(4)?,
-            self.price(5)?,
-        ))
-    }
-
-    fn transfer(&self) -> anyhow::Result<Call> {
-        Ok(Call::Transfer(
-            self.figure(1)?,
-            self.figure(2)?,
-            self.figure(3)?,
-            self.energy(4)?,
-            self.price(5)?,
-        ))
     }
 }

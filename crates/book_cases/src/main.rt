@@ -16,7 +16,7 @@ fn main(rt: HostRuntime) -> anyhow::Result<()> {
 }
 
 fn run(rt: &HostRuntime) -> anyhow::Result<()> {
-    // Kept: each program reads its input up to a bound of its own, and has its own words for what goes wrong.
+    // Kept: sheet_cases has these two lines too; a function for both would want a library of its own.
     let mut input = Vec::new(rt.alloc());
     rt.stdin().take(MOST_INPUT).read_to_end(&mut input)?;
     let text = str::from_utf8(input.as_slice())?;

@@ -11,6 +11,7 @@ use sharing::Share;
 use units::Price;
 
 // Opens the book and makes the calls in order, each with its answer.
+// Kept: calls and answers are two slices, as callers hold them.
 // Declined, as open would be or where there are not as many answers as calls, it changes neither book nor answers.
 pub fn replay<R: Share + Drop>(
     book: &mut Book<R>,
@@ -45,7 +46,7 @@ fn make_all<R: Share>(book: &mut Book<R>, calls: &[Call], answers: &mut [Answer]
     requires { length answers.old ≡ length calls.now }
     ensures { Run (ledger_of R.Share.shares book.old) calls.now answers.new (ledger_of R.Share.shares book.new) }
 {
-    // Kept: by index, since a proof knows nothing of what a zip with answers.iter_mut() wrote.
+    // Kept: by index. Of what is written through zip and iter_mut a proof learns nothing.
     for (i, call) in calls.iter().enumerate() {
         answers[i] = make(book, *call);
     }

@@ -22,7 +22,7 @@ pub(crate) fn pay_contracts(
     ensures after { amounts.new ≡ amounts_of tariff contracts.now energies.now }
 {
     let mut total = Grains::from_count(0);
-    // Kept: by index, since of what is written through a zip with iter_mut a proof learns nothing.
+    // Kept: by index. Tried with zip and iter_mut: a proof learns nothing of what is written through them.
     for (i, contract) in contracts.iter().enumerate() {
         let amount = energies[i].worth(tariff.contract_price(contract.price))?;
         amounts[i] = amount;

@@ -34,7 +34,7 @@ pub(crate) fn fill(metered: Energy, claims: &[Energy], parts: &mut [Energy]) -> 
 {
     let mut left = metered.kwh();
     let mut missing = 0;
-    // Kept: by index, since of what is written through a zip with iter_mut a proof learns nothing.
+    // Kept: by index. Tried with zip and iter_mut: a proof learns nothing of what is written through them.
     for (i, claim) in claims.iter().enumerate() {
         let part = part_of(left, *claim);
         let taken = part.kwh();
@@ -59,6 +59,7 @@ fn admit(metered: Energy, claims: &[Energy], places: usize) -> Result<(), Refusa
 
 // Divides the metered energy over seven claims, one for each rank, in their order. Answers what is left over of
 // the meter and what stays unfilled of the claims. A declined call leaves the parts as they were.
+// Kept: claims and parts are two slices, as callers hold them.
 pub fn divide(
     metered: Energy,
     claims: &[Energy],

@@ -1,5 +1,5 @@
 // The classes of plants, the ranks of energy and the seasons.
-ghost use Rattle.std.specs.Prelude.{◌≡◌};
+ghost use Rattle.std.specs.Prelude.{◌≡◌, ◌++◌, Some, codes, decimal};
 ghost use Rattle.market.specs.Kinds.{class_number, class_from, rank_number, rank_from, may_hold, may_transfer, season_of};
 
 use std::error::Error;
@@ -76,6 +76,8 @@ impl From<Class> for u8 {
 }
 
 impl fmt::Display for UnknownClass {
+    ghost output = { λ unknown. Some (codes "no class has the number " ++ decimal unknown.0) };
+
     fn fmt<W: fmt::Write>(&self, f: &mut fmt::Formatter<W>) -> fmt::Result {
         write!(f, "no class has the number {}", self.0)
     }
@@ -148,6 +150,8 @@ impl From<Rank> for u8 {
 }
 
 impl fmt::Display for UnknownRank {
+    ghost output = { λ unknown. Some (codes "no rank has the number " ++ decimal unknown.0) };
+
     fn fmt<W: fmt::Write>(&self, f: &mut fmt::Formatter<W>) -> fmt::Result {
         write!(f, "no rank has the number {}", self.0)
     }

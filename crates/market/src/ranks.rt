@@ -63,7 +63,7 @@ fn lay_out(contracts: &[Contract], rank: Rank, parts: &[u64], energies: &mut [En
     ensures { energies.new ≡ laid (rank_number rank) contracts.now parts.now energies.old }
 {
     let mut parts = parts.iter();
-    // Kept: by index, since of what is written through a zip with iter_mut a proof learns nothing.
+    // Kept: by index. Tried with zip and iter_mut: a proof learns nothing of what is written through them.
     for (i, contract) in contracts.iter().enumerate() {
         if contract.is_of(rank) {
             energies[i] = Energy::from_kwh(*parts.next().unwrap());
@@ -121,6 +121,7 @@ impl Month<'_> {
         ensures { energies.new ≡ laid_all (λ n. R.shares rule.now (claims_of n self.now.contracts.now) (slice_index (kwhs settled.now) (n - 1))) self.now.contracts.now energies.old }
     {
         let mut claims = ArrayVec::new();
+        // Kept: an array cut to a length. The rule fills a slice, and a settlement may want no heap.
         let mut room = [0; MOST_CONTRACTS];
         for rank in CONTRACTED {
             self.gather(rank, &mut claims);

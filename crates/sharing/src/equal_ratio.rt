@@ -49,7 +49,8 @@ fn fill_by_ratio(claims: &[u64], total: u64, claimed: u64, parts: &mut [u64])
 {
     let mut so_far: u64 = 0;
     let mut given: u64 = 0;
-    // Kept: by index, since a proof knows nothing of what a zip with parts.iter_mut() wrote.
+    // Kept: by index. Tried with zip and iter_mut: a proof learns nothing of what is written through them. A loop over the
+    // parts that asks an iterator of claims for the next reads no plainer.
     for (i, claim) in claims.iter().enumerate() {
         so_far += *claim;
         let due = running_floor(claimed, total, so_far);

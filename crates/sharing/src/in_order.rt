@@ -37,7 +37,8 @@ fn fill_in_order(claims: &[u64], total: u64, claimed: u64, parts: &mut [u64])
 {
     let mut left = total;
     let mut rest = claimed;
-    // Kept: by index, since a proof knows nothing of what a zip with parts.iter_mut() wrote.
+    // Kept: by index. Tried with zip and iter_mut: a proof learns nothing of what is written through them. A loop over the
+    // parts that asks an iterator of claims for the next reads no plainer.
     for (i, claim) in claims.iter().enumerate() {
         rest -= *claim;
         let part = if *claim > 0 && rest == 0 {

@@ -25,7 +25,6 @@ impl Refusal {
 // The number, and what it means.
 impl fmt::Display for Refusal {
     fn fmt<W: fmt::Write>(&self, f: &mut fmt::Formatter<W>) -> fmt::Result {
-        let number = self.number();
         let meaning = match self {
             Refusal::Lengths => "claims and parts differ in length, or are more than 256",
             Refusal::NothingClaimed => "nothing is claimed, and the total is above zero",
@@ -33,6 +32,6 @@ impl fmt::Display for Refusal {
                 "a claim is above 300000000000, or the total times the sum of the claims is above 9000000000000000000"
             }
         };
-        write!(f, "{number}: {meaning}")
+        write!(f, "{}: {meaning}", self.number())
     }
 }

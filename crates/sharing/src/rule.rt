@@ -11,7 +11,8 @@ pub trait Share {
     ghost shares: { Self → List ℕ → ℕ → List ℕ };
 
     // Fills the parts, or says why the question is declined and leaves them as they were.
-    // Kept: claims and total are two parameters, since callers hold them apart and a struct would be made for one call.
+    // Kept: claims and total are two parameters, and claims and parts two slices, since callers hold them apart and a struct
+    // would be made for one call.
     fn share(&self, claims: &[u64], total: u64, parts: &mut [u64]) -> Result<(), Refusal>
         ensures { Shared (shares self.now) claims.now total parts.old parts.new result };
 

@@ -60,6 +60,10 @@ pub refused_some : {X : Type 0} (a : Result X Refusal) (offset item : ℕ) (e : 
 refused_some (Ok x) offset item e h = let z : ◌≡◌ {A = ℕ} 0 1 = cc in absurd (omega arith)
 refused_some (Err why) offset item e h = (why, refl, ap Some (sym h))
 
+pub fault_of_lem : (offset item : ℕ) (why : Option Refusal) (e : Fault) → book_fault offset item why ≡ Some e → (w : Refusal) × (why ≡ Some w)
+fault_of_lem offset item None e h = let z : ◌≡◌ {A = ℕ} 0 1 = cc in absurd (omega arith)
+fault_of_lem offset item (Some w) e h = (w, refl)
+
 -- One call more.
 pub call_made : (f g : Ledger) (c : Call) (a : Answer) (offset item : ℕ) (cs : List Call) → Makes f c g a → is_ok a ≡ true → (item_fault f offset item (c ∷ cs) ≡ item_fault g offset (item + 1) cs) × (left_by f (c ∷ cs) ≡ left_by g cs)
 call_made f g c a offset item cs m h =

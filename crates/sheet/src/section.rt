@@ -7,6 +7,7 @@ use crate::kind::Kind;
 use crate::number::bytes_at;
 
 // Each holds its offset in the sheet, its heads and its terms.
+// Kept: a case for each kind, alike in what they hold, since the project wants the kind to be told by the case.
 #[derive(Clone, Copy)]
 pub enum Section<'a> {
     EnrolSection(usize, &'a [u8], &'a [u8]),

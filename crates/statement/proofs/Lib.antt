@@ -2,3 +2,4 @@ mod Issues
 mod Metered
 mod Unissued
 mod Wholes
+mod Texts

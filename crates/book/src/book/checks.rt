@@ -10,7 +10,7 @@ ghost use Rattle.book.specs.Ledgers.{with_rows};
 ghost use Rattle.book.specs.Rows.{plant_ok, row_of, with_row};
 
 use super::Book;
-use crate::account::{Account, reversed};
+use crate::account::{Account, Reading, reversed};
 use crate::call::Call;
 use crate::order::Order;
 use crate::plant::Plant;
@@ -110,22 +110,17 @@ impl<R: Share> Book<R> {
         Ok(())
     }
 
-    pub(crate) fn may_meter(
-        &self,
-        plant: Plant,
-        metered: Energy,
-        commissioning: Energy,
-    ) -> Result<(), Refusal>
-        ensures { declined_by result ≡ declined (ledger_of R.Share.shares self.now) (Call.Meter plant.number metered commissioning) }
+    pub(crate) fn may_meter(&self, plant: Plant, reading: Reading) -> Result<(), Refusal>
+        ensures { declined_by result ≡ declined (ledger_of R.Share.shares self.now) (Call.Meter plant.number reading.metered reading.commissioning) }
     {
-        if !metered.within_limit() || !commissioning.within_limit() {
+        if !reading.metered.within_limit() || !reading.commissioning.within_limit() {
             return Err(Refusal::PastLimit);
         }
         let account = self.enrolled(plant)?;
         if account.closed {
             return Err(Refusal::Closed);
         }
-        if metered.kwh() < commissioning.kwh() {
+        if reading.metered.kwh() < reading.commissioning.kwh() {
             return Err(Refusal::TooMuch);
         }
         Ok(())
@@ -270,6 +265,7 @@ fn class_within(plant: Plant, class: u8, approved: Price) -> Result<Class, Refus
     Ok(Class::try_from(class)?)
 }
 
+// Kept: the figures of the call as they came, for one function; a struct of them would be taken apart at once.
 // The rank that a number names, where the figures of a contract are within their limits.
 #[tactic(auto, unfolding(crate::specs::Calls::enter_within))]
 fn rank_within(

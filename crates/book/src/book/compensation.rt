@@ -34,6 +34,7 @@ impl<R: Share> Book<R> {
         ensures { result.rows ≡ accounts_compensated (R.Share.shares self.now.rule) plant.number fen (ledger_of R.Share.shares self.now).accounts }
     {
         let claims = self.accounts.claims();
+        // Kept: an array cut to a length. The rule fills a slice, and no call on a book may want heap.
         let mut parts = [0; PLANTS];
         let parts = &mut parts[..claims.len()];
         share_out(&self.rule, claims.as_slice(), fen, parts);

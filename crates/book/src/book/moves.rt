@@ -102,11 +102,11 @@ impl<R: Share> Book<R> {
         ensures { Makes (ledger_of R.Share.shares self.old) (Call.Meter plant metered commissioning) (ledger_of R.Share.shares self.new) (told result) }
     {
         let plant = Plant::try_from(plant)?;
-        self.may_meter(plant, metered, commissioning)?;
         let reading = Reading {
             metered,
             commissioning,
         };
+        self.may_meter(plant, reading)?;
         self.accounts
             .change(plant, |account| account.meter(reading));
         Ok(())

@@ -8,7 +8,7 @@ ghost use Rattle.book.specs.Ledgers.{plant_in, net_of_plant};
 ghost use Rattle.book.specs.Rows.{contracts_of};
 
 use super::Book;
-use crate::account::Reading;
+use crate::account::{Enrolment, Reading};
 use crate::plant::Plant;
 use crate::refusal::Refusal;
 use market::{Class, MOST_CONTRACTS, PlantFigures, Season, Settlement, settle as settle_plant};
@@ -21,21 +21,21 @@ impl<R: Share> Book<R> {
         ensures { result ≡ (plant_in (ledger_of R.Share.shares self.now) plant.number).plant }
     {
         let account = self.accounts.at(plant);
-        let (class, approved) = match account.enrolment {
-            Some(enrolment) => (enrolment.class, enrolment.approved),
-            None => (Class::Hydro, Price::from_micro_yuan(0)),
-        };
-        let (metered, commissioning) = match account.reading {
-            Some(reading) => (reading.metered, reading.commissioning),
-            None => (Energy::from_kwh(0), Energy::from_kwh(0)),
-        };
+        let enrolment = account.enrolment.unwrap_or(Enrolment {
+            class: Class::Hydro,
+            approved: Price::from_micro_yuan(0),
+        });
+        let reading = account.reading.unwrap_or(Reading {
+            metered: Energy::from_kwh(0),
+            commissioning: Energy::from_kwh(0),
+        });
         PlantFigures {
-            class,
+            class: enrolment.class,
             season: Season::of_month(self.month).unwrap_or(Season::Dry),
             residential: self.residential,
-            approved,
-            metered,
-            commissioning,
+            approved: enrolment.approved,
+            metered: reading.metered,
+            commissioning: reading.commissioning,
             side: account.side,
         }
     }
@@ -63,6 +63,7 @@ impl<R: Share> Book<R> {
         ensures bound { unsigned_abs result.count ≤ most_net }
     {
         let count = self.contract_count(plant.number);
+        // Kept: arrays cut to a length. Settling fills slices, and no call on a book may want heap.
         let mut energies = [Energy::from_kwh(0); MOST_CONTRACTS];
         let mut amounts = [Grains::from_count(0); MOST_CONTRACTS];
         let energies = &mut energies[..count];

@@ -1,5 +1,5 @@
 // What the contract table answers and does.
-ghost use Rattle.std.specs.Prelude.{◌≡◌, ◌<◌, ◌≤◌, true, [], length, is_some, IfOk, nat_le};
+ghost use Rattle.std.specs.Prelude.{◌≡◌, ◌<◌, ◌≤◌, true, [], length, IfOk, nat_le};
 ghost use Rattle.book.specs.Rows.{rising, row_of, place_of, with_row, with_energy, plant_sum, contracts_of};
 
 use super::ContractTable;
@@ -81,13 +81,15 @@ impl ContractTable {
         let _ = self.rows.insert(i, row);
     }
 
+    // Gives the contract of a number another energy, where there is one.
     pub(crate) fn set_energy(&mut self, number: u32, energy: Energy)
-        requires held { is_some (row_of number self.old.rows.items) ≡ true }
-        requires rises { rising self.old.rows.items ≡ true }
         ensures { self.new.rows.items ≡ with_energy number energy self.old.rows.items }
     {
-        let i = self.place(number);
-        self.rows[i].contract.energy = energy;
+        for row in self.rows.iter_mut() {
+            if row.number == number {
+                row.set_energy(energy);
+            }
+        }
     }
 
     // Drops every contract and keeps the room.

@@ -1,4 +1,4 @@
-use Rattle.std.proofs.Common.{◌≡◌, ◌-◌, ◌≤◌, length, neg_ℤ, nat_abs, is_some, Some, sym, refl, ap, ◌∙◌, arith, rules}
+use Rattle.std.proofs.Common.{◌≡◌, ◌-◌, ◌≤◌, length, neg_ℤ, nat_abs, Some, sym, refl, ap, ◌∙◌, arith, rules}
 use Rattle.std.proofs.lemmas.Int.{ints}
 use Rattle.book.specs.declared.account.Account.{Account}
 use Rattle.book.specs.declared.call.Call.TheVariants.{Transfer}
@@ -23,15 +23,6 @@ transfer_fee-paid-requires g c =
     let told = c.in_ok-row.ensures in
     let t = transferable f o.new o.old o.receiver.number o.energy o.price c.in_ok-row.row (sound_of f c.args.self.now.sound) told.row (sym told.answer) in
     record { energy = t.energy; contract = t.price; transfer = t.transfer }
-
-pub set_energy-requires : goal.set_energy-requires
-set_energy-requires g c =
-    let o = c.in_ok-order.order in
-    let f = ledger_of g.R.Share.shares c.args.self.now in
-    let told = c.in_ok-row.ensures in
-    let s = sound_of f c.args.self.now.sound in
-    let t = transferable f o.new o.old o.receiver.number o.energy o.price c.in_ok-row.row s told.row (sym told.answer) in
-    record { held = ap is_some t.own; rises = s.rises }
 
 pub insert-requires : goal.insert-requires
 insert-requires g c =

@@ -46,7 +46,8 @@ fn make_all<R: Share>(book: &mut Book<R>, calls: &[Call], answers: &mut [Answer]
     requires { length answers.old ≡ length calls.now }
     ensures { Run (ledger_of R.Share.shares book.old) calls.now answers.new (ledger_of R.Share.shares book.new) }
 {
-    // Kept: by index. Of what is written through zip and iter_mut a proof learns nothing.
+    // Kept: by index. Tried with zip and iter_mut: a proof learns nothing of what is written through them. A loop over what is
+    // written that asks an iterator for the next reads no plainer.
     for (i, call) in calls.iter().enumerate() {
         answers[i] = make(book, *call);
     }

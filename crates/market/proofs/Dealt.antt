@@ -1,6 +1,6 @@
 -- Contracts of one rank: their claims, and their parts laid out over them. Assumes nothing.
 use Rattle.std.proofs.Common.{◌≡◌, ℕ, zero, suc, ◌+◌, ◌-◌, ◌*◌, ◌<◌, ◌≤◌, true, false, cond, List, [], ◌∷◌, ◌++◌, length, get_or, take, drop, set, sum, sym, refl, ap, ◌∙◌, ⊎_elim, add-zero, arith}
-use Rattle.std.proofs.lemmas.List.{at_drop_more, drop_more, drop-drop, drop-set-lt, get_or-drop, take_more, append_assoc}
+use Rattle.std.proofs.lemmas.List.{at_drop_more, drop_all, drop_more, drop_all, drop-drop, drop-set-lt, get_or-drop, take_more, append_assoc}
 use Rattle.std.specs.List.{filter, sum_by}
 use Rattle.std.proofs.lemmas.List.Sums.{sum_by-cons}
 use Rattle.std.proofs.lemmas.Bool.{cases_Bool, cond-true, cond-false}
@@ -13,7 +13,7 @@ use Rattle.market.specs.Dividing.{energy, kwhs}
 use Rattle.market.specs.Figures.{of_rank, claims_of, contracted, rank_claims}
 use Rattle.market.specs.Kinds.{rank_number}
 use Rattle.market.proofs.Admitted.{blank}
-use Rattle.market.proofs.Filling.{sum_cons, places_more}
+use Rattle.market.proofs.Filling.{sum_cons, places_more, places_all}
 
 -- a contract of the rank, and one of another, at the place i
 pub claims_hit : (n : ℕ) (cs : List Contract) (i : ℕ) → i < length cs → of_rank n (get_or cs i blank) ≡ true → claims_of n (drop i cs) ≡ (get_or cs i blank).energy.kwh ∷ claims_of n (drop (i + 1) cs)
@@ -90,6 +90,10 @@ pub laid_miss : (n : ℕ) (cs : List Contract) (parts : List ℕ) (es out : List
 laid_miss n cs parts es out i h k o e same =
     kept_at es out i (laid n (drop (i + 1) cs) parts (drop (i + 1) es)) o same
     ∙ ap (λ l. take i out ++ l) (sym (laid_at n cs parts es i h k ∙ cond-false _ _ _ e))
+
+pub laid_all_lem : (n : ℕ) (cs : List Contract) (parts : List ℕ) (es out : List Energy) (i : ℕ) → length cs ≤ i → length out ≤ i → take i out ++ laid n (drop i cs) parts (drop i es) ≡ out
+laid_all_lem n cs parts es out i h k =
+    ap (λ l. take i out ++ laid n l parts (drop i es)) (drop_all i cs h) ∙ places_all out i k
 
 -- seven numbers, one by one
 pub sum_seven : (a b c d e f g : ℕ) → sum (a ∷ b ∷ c ∷ d ∷ e ∷ f ∷ g ∷ []) ≡ a + b + c + d + e + f + g

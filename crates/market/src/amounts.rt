@@ -22,7 +22,8 @@ pub(crate) fn pay_contracts(
     ensures after { amounts.new ≡ amounts_of tariff contracts.now energies.now }
 {
     let mut total = Grains::from_count(0);
-    // Kept: by index. Tried with zip and iter_mut: a proof learns nothing of what is written through them.
+    // Kept: by index. Tried with zip and iter_mut: a proof learns nothing of what is written through them. A loop over what is
+    // written that asks an iterator for the next reads no plainer.
     for (i, contract) in contracts.iter().enumerate() {
         let amount = energies[i].worth(tariff.contract_price(contract.price))?;
         amounts[i] = amount;

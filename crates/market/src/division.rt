@@ -34,7 +34,8 @@ pub(crate) fn fill(metered: Energy, claims: &[Energy], parts: &mut [Energy]) -> 
 {
     let mut left = metered.kwh();
     let mut missing = 0;
-    // Kept: by index. Tried with zip and iter_mut: a proof learns nothing of what is written through them.
+    // Kept: by index. Tried with zip and iter_mut: a proof learns nothing of what is written through them. A loop over what is
+    // written that asks an iterator for the next reads no plainer.
     for (i, claim) in claims.iter().enumerate() {
         let part = part_of(left, *claim);
         let taken = part.kwh();

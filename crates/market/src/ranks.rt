@@ -63,7 +63,8 @@ fn lay_out(contracts: &[Contract], rank: Rank, parts: &[u64], energies: &mut [En
     ensures { energies.new ≡ laid (rank_number rank) contracts.now parts.now energies.old }
 {
     let mut parts = parts.iter();
-    // Kept: by index. Tried with zip and iter_mut: a proof learns nothing of what is written through them.
+    // Kept: by index. Tried with zip and iter_mut: a proof learns nothing of what is written through them. A loop over what is
+    // written that asks an iterator for the next reads no plainer.
     for (i, contract) in contracts.iter().enumerate() {
         if contract.is_of(rank) {
             energies[i] = Energy::from_kwh(*parts.next().unwrap());

@@ -1,6 +1,7 @@
 // The quantities of a settlement, told apart: each is a number in a struct of its own, made, read and
 // converted only by named functions.
-// Kept: a struct for each quantity, alike but for name and number; one generic struct would print and convert all of them alike.
+// Kept: a struct for each quantity, alike but for name and number, since the project tells quantities apart; a generic one would
+// need as many named functions.
 #![tactic(auto)]
 
 mod energy;

@@ -265,8 +265,8 @@ fn class_within(plant: Plant, class: u8, approved: Price) -> Result<Class, Refus
     Ok(Class::try_from(class)?)
 }
 
-// Kept: the figures of the call as they came, for one function; a struct of them would be taken apart at once.
 // The rank that a number names, where the figures of a contract are within their limits.
+// Kept: the figures of the call as they came, for one function; a struct of them would be taken apart at once.
 #[tactic(auto, unfolding(crate::specs::Calls::enter_within))]
 fn rank_within(
     number: u32,

@@ -1,7 +1,7 @@
 -- Contracts of one rank: their claims, and their parts laid out over them. Assumes nothing.
 use Rattle.std.proofs.Common.{◌≡◌, ℕ, zero, suc, ◌+◌, ◌-◌, ◌*◌, ◌<◌, ◌≤◌, true, false, cond, List, [], ◌∷◌, ◌++◌, length, get_or, take, drop, set, sum, sym, refl, ap, ◌∙◌, ⊎_elim, add-zero, arith}
 use Rattle.std.proofs.lemmas.List.{at_drop_more, drop_all, drop_more, drop_all, drop-drop, drop-set-lt, get_or-drop, take_more, append_assoc}
-use Rattle.std.specs.List.{filter, sum_by}
+use Rattle.std.specs.List.{sum_by}
 use Rattle.std.proofs.lemmas.List.Sums.{sum_by-cons}
 use Rattle.std.proofs.lemmas.Bool.{cases_Bool, cond-true, cond-false}
 use Rattle.units.specs.declared.energy.Energy.{Energy}
@@ -22,21 +22,14 @@ claims_hit n cs i h e = at_drop_more (claims_of n) cs i blank h ∙ cond-true _ 
 pub claims_miss : (n : ℕ) (cs : List Contract) (i : ℕ) → i < length cs → of_rank n (get_or cs i blank) ≡ false → claims_of n (drop i cs) ≡ claims_of n (drop (i + 1) cs)
 claims_miss n cs i h e = at_drop_more (claims_of n) cs i blank h ∙ cond-false _ _ _ e
 
--- a rank's claims, as the library picks them out and adds them up
-pub claims_are : (n : ℕ) (cs : List Contract) → sum_by (λ (c : Contract). c.energy.kwh) (filter (of_rank n) cs) ≡ sum (claims_of n cs)
-claims_are n [] = refl
-claims_are n (c ∷ cs) =
+-- a rank's claims, added up over all contracts
+pub claims_added : (n : ℕ) (cs : List Contract) → sum_by (λ (c : Contract). cond (of_rank n c) c.energy.kwh 0) cs ≡ sum (claims_of n cs)
+claims_added n [] = refl
+claims_added n (c ∷ cs) =
+    let claim : Contract → ℕ = λ x. cond (of_rank n x) x.energy.kwh 0 in
     ⊎_elim
-    (λ yes.
-    ap (sum_by (λ (x : Contract). x.energy.kwh)) (cond-true (of_rank n c) (c ∷ filter (of_rank n) cs) (filter (of_rank n) cs) yes)
-    ∙ sum_by-cons (λ (x : Contract). x.energy.kwh) c (filter (of_rank n) cs)
-    ∙ ap (λ k. c.energy.kwh + k) (claims_are n cs)
-    ∙ sym (sum_cons c.energy.kwh (claims_of n cs))
-    ∙ sym (ap sum (cond-true (of_rank n c) (c.energy.kwh ∷ claims_of n cs) (claims_of n cs) yes)))
-    (λ other.
-    ap (sum_by (λ (x : Contract). x.energy.kwh)) (cond-false (of_rank n c) (c ∷ filter (of_rank n) cs) (filter (of_rank n) cs) other)
-    ∙ claims_are n cs
-    ∙ sym (ap sum (cond-false (of_rank n c) (c.energy.kwh ∷ claims_of n cs) (claims_of n cs) other)))
+    (λ yes. omega (arith, sum_by-cons claim c cs, cond-true (of_rank n c) c.energy.kwh 0 yes, claims_added n cs, sum_cons c.energy.kwh (claims_of n cs), ap sum (cond-true (of_rank n c) (c.energy.kwh ∷ claims_of n cs) (claims_of n cs) yes)))
+    (λ other. omega (arith, sum_by-cons claim c cs, cond-false (of_rank n c) c.energy.kwh 0 other, claims_added n cs, ap sum (cond-false (of_rank n c) (c.energy.kwh ∷ claims_of n cs) (claims_of n cs) other)))
     (cases_Bool (of_rank n c))
 
 -- a rank has no more contracts and no more energy than all

@@ -11,13 +11,14 @@ pub struct Contract {
     pub price: Price,
 }
 
-// A contract of no energy: what an `ArrayVec` holds in its unused places.
+// A contract of no energy: what an `ArrayVec` holds in its unused places. Its rank is the first, so that all its bytes are 0 and
+// the places are cleared at once.
 impl Default for Contract {
     ghost is_default = { λ c. c.energy.kwh ≡ 0 };
 
     fn default() -> Contract {
         Contract {
-            rank: Rank::InProvinceMarket,
+            rank: Rank::InterProvincePriority,
             energy: Energy::from_kwh(0),
             price: Price::from_micro_yuan(0),
         }

@@ -1,6 +1,5 @@
 // What the ranks claim, and how a rank's energy is shared over its contracts.
-ghost use Rattle.std.specs.Prelude.{◌≡◌, ◌-◌, ◌^◌, ◌<◌, ◌≤◌, length, sum, sum_by, slice_index};
-ghost use Rattle.std.specs.List.{filter};
+ghost use Rattle.std.specs.Prelude.{◌≡◌, ◌-◌, ◌^◌, ◌<◌, ◌≤◌, length, cond, sum, sum_by, slice_index};
 ghost use Rattle.market.specs.declared.figures.Contract.{Contract};
 ghost use Rattle.market.specs.Dealing.{laid, laid_all, Covered};
 ghost use Rattle.market.specs.Dividing.{kwhs};
@@ -42,18 +41,22 @@ impl Contract {
     {
         self.rank == rank
     }
+
+    // What the contract adds to the claims of a rank, in kWh.
+    fn kwh_in(self, rank: Rank) -> u64
+        ensures { result ≡ cond (of_rank (rank_number rank) self) self.energy.kwh 0 }
+    {
+        let kwh = self.energy.kwh();
+        if self.is_of(rank) { kwh } else { 0 }
+    }
 }
 
 // The energy of a rank's contracts, in kWh.
 fn rank_energy(contracts: &[Contract], rank: Rank) -> u64
-    requires { sum_by (λ (c : Contract). c.energy.kwh) (filter (of_rank (rank_number rank)) contracts.now) < 2 ^ 64 }
-    ensures { result ≡ sum_by (λ (c : Contract). c.energy.kwh) (filter (of_rank (rank_number rank)) contracts.now) }
+    requires { sum_by (λ (c : Contract). cond (of_rank (rank_number rank) c) c.energy.kwh 0) contracts.now < 2 ^ 64 }
+    ensures { result ≡ sum_by (λ (c : Contract). cond (of_rank (rank_number rank) c) c.energy.kwh 0) contracts.now }
 {
-    contracts
-        .iter()
-        .filter(|contract| contract.is_of(rank))
-        .map(|contract| contract.energy.kwh())
-        .sum()
+    contracts.iter().map(|contract| contract.kwh_in(rank)).sum()
 }
 
 // Lays the parts of a rank out over its contracts, one after the other.

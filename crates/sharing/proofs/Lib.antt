@@ -1,3 +1,4 @@
 pub mod ByPlace
 pub mod Granted
+pub mod Tried
 pub mod Turns

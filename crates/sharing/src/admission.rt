@@ -10,22 +10,18 @@ const MOST_CLAIMED: u64 = 300_000_000_000;
 
 const MOST_PRODUCT: u64 = 9_000_000_000_000_000_000;
 
-fn any_too_large(claims: &[u64]) -> bool
-    ensures { result ≡ any_above 300000000000 claims.now }
-{
-    claims.iter().any(|claim| *claim > MOST_CLAIMED)
-}
-
 // The sum of the claims, or nothing where one of them is too large.
 fn sum_of(claims: &[u64]) -> Option<u64>
     requires { length claims.now ≤ 256 }
     ensures { result ≡ (if any_above 300000000000 claims.now then None else Some (sum claims.now)) }
 {
-    if any_too_large(claims) {
-        None
-    } else {
-        Some(claims.iter().sum())
-    }
+    claims.iter().try_fold(0, |so_far: u64, claim| {
+        if *claim > MOST_CLAIMED {
+            None
+        } else {
+            so_far.checked_add(*claim)
+        }
+    })
 }
 
 // The sum of the claims, where a share into so many places is not declined. A rule of one's own begins with it.

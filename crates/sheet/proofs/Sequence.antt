@@ -74,8 +74,8 @@ section_stopped f g s more e some same = (
 )
 
 -- After the last section.
-pub over : (f : Ledger) (n i offset : ℕ) (rest : List ℕ) → n ≤ i → fault_of f (contents_from (n - i) offset rest) ≡ left_over offset rest
-over f n i offset rest h = let e : n - i ≡ 0 = omega arith in ap (λ m. fault_of f (contents_from m offset rest)) e
+pub over : (f : Ledger) (n i offset : ℕ) (rest : List ℕ) → n ≤ i → (fault_of f (contents_from (n - i) offset rest) ≡ left_over offset rest) × (left_of f (contents_from (n - i) offset rest) ≡ f)
+over f n i offset rest h = let e : n - i ≡ 0 = omega arith in (ap (λ m. fault_of f (contents_from m offset rest)) e, ap (λ m. left_of f (contents_from m offset rest)) e)
 
 some_left : (offset : ℕ) (rest : List ℕ) → 0 < length rest → left_over offset rest ≡ Some (sheet_fault offset LeftOver)
 some_left offset [] h = absurd (omega arith)

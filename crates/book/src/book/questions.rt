@@ -11,6 +11,7 @@ use super::Book;
 use crate::account::{Enrolment, Reading};
 use crate::plant::Plant;
 use crate::refusal::Refusal;
+use arrayvec::ArrayVec;
 use market::{Class, MOST_CONTRACTS, PlantFigures, Season, Settlement, settle as settle_plant};
 use sharing::Share;
 use units::{Energy, Grains, Price};
@@ -54,7 +55,8 @@ impl<R: Share> Book<R> {
         ensures amounts { amounts.new ≡ settled_amounts (plant_in (ledger_of R.Share.shares self.now) plant.number) }
     {
         let figures = self.figures(plant);
-        let contracts = self.contracts.contracts_of(plant.number);
+        let mut contracts = ArrayVec::new();
+        self.contracts.gather(plant.number, &mut contracts);
         settle_plant(&self.rule, figures, contracts.as_slice(), energies, amounts).unwrap()
     }
 

@@ -1,5 +1,5 @@
 // What the contract table answers and does.
-ghost use Rattle.std.specs.Prelude.{◌≡◌, ◌<◌, ◌≤◌, true, [], length, IfOk, nat_le};
+ghost use Rattle.std.specs.Prelude.{◌≡◌, ◌<◌, ◌≤◌, true, [], length, is_some, IfOk, nat_le};
 ghost use Rattle.book.specs.Rows.{rising, row_of, place_of, with_row, with_energy, plant_sum, contracts_of};
 
 use super::ContractTable;
@@ -32,9 +32,19 @@ impl ContractTable {
     }
 
     pub(crate) fn find(&self, number: u32) -> Option<Row>
+        requires { rising self.now.rows.items ≡ true }
         ensures { result ≡ row_of number self.now.rows.items }
     {
-        self.rows.iter().find(|row| row.number == number).copied()
+        let i = self.place(number);
+        if i == self.rows.len() {
+            return None;
+        }
+        let row = self.rows[i];
+        if row.number == number {
+            Some(row)
+        } else {
+            None
+        }
     }
 
     // The energy of one plant's contracts.
@@ -42,33 +52,38 @@ impl ContractTable {
         requires { plant_sum plant self.now.rows.items ≤ 3000000000 }
         ensures { result.kwh ≡ plant_sum plant self.now.rows.items }
     {
-        let kwh = self
-            .rows
-            .iter()
-            .filter(|row| row.plant == plant)
-            .map(|row| row.contract.energy.kwh())
-            .sum();
-        Energy::from_kwh(kwh)
+        // Kept: a loop. Tried as filter, map and sum, and as map and sum: an amendment of a full book's first contract took 1.6 times
+        // as long as with the loop of old, or more.
+        let rows = self.rows.as_slice();
+        let mut sum = 0;
+        for row in rows {
+            if row.plant == plant {
+                sum += row.contract.energy.kwh();
+            }
+        }
+        Energy::from_kwh(sum)
     }
 
     // How many contracts a plant has.
     pub(crate) fn count(&self, plant: u8) -> usize
         ensures { result ≡ length (contracts_of plant self.now.rows.items) }
     {
-        self.rows.iter().filter(|row| row.plant == plant).count()
+        self.rows
+            .iter()
+            .map(|row| usize::from(row.plant == plant))
+            .sum()
     }
 
-    // A plant's contracts, in rising number.
-    pub(crate) fn contracts_of(&self, plant: u8) -> ArrayVec<Contract, MOST_CONTRACTS>
-        ensures { result.items ≡ contracts_of plant self.now.rows.items }
+    // Leaves a plant's contracts, in rising number, in a list that a caller has room for.
+    pub(crate) fn gather(&self, plant: u8, contracts: &mut ArrayVec<Contract, MOST_CONTRACTS>)
+        ensures { contracts.new.items ≡ contracts_of plant self.now.rows.items }
     {
-        let mut contracts = ArrayVec::new();
+        contracts.clear();
         for row in &self.rows {
             if row.plant == plant {
                 contracts.push(row.contract);
             }
         }
-        contracts
     }
 
     // Cannot fail: room for 256 was reserved when the table was made.
@@ -81,15 +96,14 @@ impl ContractTable {
         let _ = self.rows.insert(i, row);
     }
 
-    // Gives the contract of a number another energy, where there is one.
+    // Gives the contract of a number another energy.
     pub(crate) fn set_energy(&mut self, number: u32, energy: Energy)
+        requires held { is_some (row_of number self.old.rows.items) ≡ true }
+        requires rises { rising self.old.rows.items ≡ true }
         ensures { self.new.rows.items ≡ with_energy number energy self.old.rows.items }
     {
-        for row in self.rows.iter_mut() {
-            if row.number == number {
-                row.set_energy(energy);
-            }
-        }
+        let i = self.place(number);
+        self.rows[i].set_energy(energy);
     }
 
     // Drops every contract and keeps the room.

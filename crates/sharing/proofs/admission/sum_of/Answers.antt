@@ -1,10 +1,10 @@
-use Rattle.std.proofs.Common.{sym, ◌∙◌, arith}
-use Rattle.std.proofs.lemmas.Iterator.{YieldsList-from_slice}
-use Rattle.std.proofs.lemmas.Iterator.Consumers.{fits_from_yields_list}
-use Rattle.sharing.specs.Claims.{sum_under}
+use Rattle.std.proofs.Common.{sum, zero-add, arith, rules, tests}
+use Rattle.sharing.proofs.Tried.{tried, summed}
 use Rattle.sharing.proofs.admission.sum_of.Goals as goal
 
-pub sum-requires-clause-fits : goal.sum-requires-clause-fits
-sum-requires-clause-fits c =
+pub returns : goal.returns
+returns c =
     let xs = c.args.claims.now in
-    fits_from_yields_list _ _ (YieldsList-from_slice xs cc) (omega (arith, sum_under 300000000000 xs (sym c.any_too_large.ensures ∙ c.if-any_too_large.false)))
+    let d = c.try_fold.ensures.ran in
+    let e = tried _ (λ f a x r f' w. search (rules, tests)) _ d.0 d.1 _ _ _ _ _ _ d.4.1 d.4.2 d.5 d.6 in
+    cc (e, summed 0 xs (omega arith), zero-add (sum xs))

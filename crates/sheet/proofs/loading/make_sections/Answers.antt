@@ -64,5 +64,5 @@ returns-then-offset-sheet-clause-fault g c =
     let here = ledger_of g.R.Share.shares c.loop-done.book in
     let offset = c.loop-done.offset in
     let bytes = c.args.sheet.now in
-    let end = over here c.args.count c.loop-done._done offset (drop offset bytes) c.loop-done-test.false in
+    let end = (over here c.args.count c.loop-done._done offset (drop offset bytes) c.loop-done-test.false).0 in
     ap Err c.of_sheet.ensures ∙ ap (λ w. answered w tt) (sym (left_over_lem offset bytes c.if-offset-sheet.true) ∙ sym end ∙ c.loop-done.invariant.0)

@@ -6,6 +6,11 @@ use Rattle.book.proofs.Kept.{amend_sound}
 use Rattle.book.proofs.Props.{sound_of, kept}
 use Rattle.book.proofs.book.Book.amend.Goals as goal
 
+pub set_energy-requires-clause-rises : goal.set_energy-requires-clause-rises
+set_energy-requires-clause-rises g c =
+    let f = ledger_of g.R.Share.shares c.args.self.now in
+    (sound_of f c.args.self.now.sound).rises
+
 pub invariant_of-self : goal.invariant_of-self
 invariant_of-self g c =
     let b = c.args.self.now in

@@ -5,6 +5,11 @@ use Rattle.book.specs.Rows.{row_of}
 use Rattle.book.proofs.Props.{sound_of}
 use Rattle.book.proofs.book.Book.may_amend.Goals as goal
 
+pub find-requires : goal.find-requires
+find-requires g c =
+    let f = ledger_of g.R.Share.shares c.args.self.now in
+    (sound_of f c.args.self.now.sound).rises
+
 pub holding-requires : goal.holding-requires
 holding-requires g c =
     let f = ledger_of g.R.Share.shares c.args.self.now in

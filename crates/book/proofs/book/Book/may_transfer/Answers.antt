@@ -7,6 +7,16 @@ use Rattle.book.proofs.RowFacts.{number_found}
 use Rattle.book.proofs.Tables.{trade_allowed_lem}
 use Rattle.book.proofs.book.Book.may_transfer.Goals as goal
 
+pub find-requires : goal.find-requires
+find-requires g c =
+    let f = ledger_of g.R.Share.shares c.args.self.now in
+    (sound_of f c.args.self.now.sound).rises
+
+pub find-requires-2 : goal.find-requires-2
+find-requires-2 g c =
+    let f = ledger_of g.R.Share.shares c.args.self.now in
+    (sound_of f c.args.self.now.sound).rises
+
 pub holding-requires : goal.holding-requires
 holding-requires g c =
     let f = ledger_of g.R.Share.shares c.args.self.now in

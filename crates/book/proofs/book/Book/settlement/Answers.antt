@@ -21,7 +21,7 @@ unwrap-requires g c =
     let m = length c.args.amounts.now in
     let figures = c.figures-figures.result in
     let cs = c.as_slice.result.now in
-    let held : cs ≡ (plant_in f p).contracts = c.as_slice.ensures.value ∙ c.contracts_of-contracts.ensures in
+    let held : cs ≡ (plant_in f p).contracts = c.as_slice.ensures.value ∙ c.gather.ensures in
     let sound = plant_sound f p (plant_parts p c.args.plant.known).1 (sound_of f c.args.self.now.sound) in
     let none : settle_declined figures cs n m ≡ None =
     ap (λ x. settle_declined x cs n m) c.figures-figures.ensures ∙ ap (λ l. settle_declined (plant_in f p).plant l n m) held ∙ accepted (plant_in f p).plant (plant_in f p).contracts n m sound c.requires.energies c.requires.amounts in
@@ -36,7 +36,7 @@ returns g c =
     let m = length c.args.amounts.now in
     let figures = c.figures-figures.result in
     let cs = c.as_slice.result.now in
-    let held : cs ≡ (plant_in f p).contracts = c.as_slice.ensures.value ∙ c.contracts_of-contracts.ensures in
+    let held : cs ≡ (plant_in f p).contracts = c.as_slice.ensures.value ∙ c.gather.ensures in
     let sound = plant_sound f p (plant_parts p c.args.plant.known).1 (sound_of f c.args.self.now.sound) in
     let is : figures_of figures cs shares ≡ plant_in f p = ap (λ x. figures_of x cs shares) c.figures-figures.ensures ∙ ap (λ l. figures_of (plant_in f p).plant l shares) held in
     let none : settle_declined figures cs n m ≡ None =

@@ -1,4 +1,4 @@
-use Rattle.std.proofs.Common.{◌≡◌, ◌-◌, ◌≤◌, length, neg_ℤ, nat_abs, Some, sym, refl, ap, ◌∙◌, arith, rules}
+use Rattle.std.proofs.Common.{◌≡◌, ◌-◌, ◌≤◌, length, neg_ℤ, nat_abs, is_some, Some, sym, refl, ap, ◌∙◌, arith, rules}
 use Rattle.std.proofs.lemmas.Int.{ints}
 use Rattle.book.specs.declared.account.Account.{Account}
 use Rattle.book.specs.declared.call.Call.TheVariants.{Transfer}
@@ -6,13 +6,13 @@ use Rattle.book.specs.Accounts.{account_of, with_account, side_moved}
 use Rattle.book.specs.Calls.{accepted, transferred, fee_for}
 use Rattle.book.specs.Holds.{ledger_of}
 use Rattle.book.specs.Ledgers.{Ledger}
-use Rattle.book.specs.Rows.{rising, with_row, with_energy, split_off}
+use Rattle.book.specs.Rows.{rising, row_of, with_row, with_energy, split_off}
 use Rattle.book.proofs.AccountFacts.{account_other}
 use Rattle.book.proofs.Figured.{transferable, row_plant, fair_of, makes_for, order_call}
 use Rattle.book.proofs.Kept.{transfer_sound}
 use Rattle.book.proofs.Makings.{makes_accepted, same_figures}
 use Rattle.book.proofs.Props.{sound_of, kept}
-use Rattle.book.proofs.RowFacts.{length_energy, rising_energy}
+use Rattle.book.proofs.RowFacts.{length_energy, number_found, rising_energy}
 use Rattle.book.proofs.Tables.{plant_parts}
 use Rattle.book.proofs.book.Book.transfer.Goals as goal
 
@@ -23,6 +23,17 @@ transfer_fee-paid-requires g c =
     let told = c.in_ok-row.ensures in
     let t = transferable f o.new o.old o.receiver.number o.energy o.price c.in_ok-row.row (sound_of f c.args.self.now.sound) told.row (sym told.answer) in
     record { energy = t.energy; contract = t.price; transfer = t.transfer }
+
+pub set_energy-requires : goal.set_energy-requires
+set_energy-requires g c =
+    let o = c.in_ok-order.order in
+    let f = ledger_of g.R.Share.shares c.args.self.now in
+    let row = c.in_ok-row.row in
+    let found = c.in_ok-row.ensures.row in
+    record {
+      held = ap is_some (ap (λ m. row_of m f.rows) (number_found o.old f.rows row found) ∙ found);
+      rises = (sound_of f c.args.self.now.sound).rises;
+    }
 
 pub insert-requires : goal.insert-requires
 insert-requires g c =

@@ -1,6 +1,6 @@
 use Rattle.std.proofs.Common.{◌≡◌, ◌≤◌, ◌++◌, length, drop}
 use Rattle.book.specs.Rows.{contracts_of}
-use Rattle.book.proofs.table.ContractTable.contracts_of.Given as goal
+use Rattle.book.proofs.table.ContractTable.gather.Given as goal
 
 abbrev pub invariant-loop-row : goal.invariant-loop-row
 invariant-loop-row l =
